@@ -1,0 +1,16 @@
+pub mod Local
+pub mod Ended
+pub mod Fuel
+pub mod Skips
+pub mod Chains
+pub mod Cut
+pub mod NameCut
+pub mod Longest
+pub mod Facts
+pub mod Laws
+pub mod Digits
+pub mod Rows
+pub mod Search
+pub mod Letters
+pub mod Apart
+pub mod Examples

@@ -1,0 +1,17 @@
+-- `names::spellings::written` meets its contract.
+use borrow.Author.Needs.{needs}
+use mathlib.Core.Path.{sym, _∙_}
+use Rattle.names.specs.Spellings.{written}
+use Rattle.names.proofs.spellings.written.Statement.{statement}
+use Rattle.names.proofs.spellings.written.Tie as tie
+
+pub written-spec : {M : Type 1} → statement M
+unfolding written
+written-spec =
+    tie.close
+    (tie.spec
+    (λ c κs. search needs)
+    (λ c. rw (sym (c .before .within .ensures) ∙ c .if1 .taken))
+    (λ c κs. search needs)
+    (λ c. rw (sym (c .before .before .before .within .ensures) ∙ c .before .before .if1 .left, sym (c .before .within2 .ensures) ∙ c .if2 .taken))
+    (λ c. rw (sym (c .before .before .before .within .ensures) ∙ c .before .before .if1 .left, sym (c .before .within2 .ensures) ∙ c .if2 .left)))

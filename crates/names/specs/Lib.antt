@@ -1,0 +1,10 @@
+pub mod Tests
+pub mod Quotes
+pub mod Read
+pub mod Chain
+pub mod Texts
+pub mod Numbers
+pub mod Names
+pub mod Spellings
+pub mod Table
+pub mod Seen

@@ -1,0 +1,48 @@
+// What every layer reads with: a place in a text, what stands there, numbers and names.
+mod numbers;
+mod spellings;
+mod table;
+mod tests;
+mod texts;
+
+pub use spellings::spelt;
+pub use spellings::warns;
+pub use table::DAY;
+pub use table::EASTER;
+pub use table::EVENT;
+pub use table::HOLIDAY;
+pub use table::MODIFIER;
+pub use table::MONTH;
+pub use table::WEEK;
+pub use table::WEEKDAY;
+pub use tests::within;
+
+// A place in a text. Each step takes it by value and hands it back moved on; past the end nothing stands.
+pub struct Cursor {
+    pub at: usize,
+}
+
+// The place after a sign, a blank or a comma, or no such shape.
+pub enum Step {
+    Got(Cursor),
+    Missing,
+}
+
+// A number and the place after it, or no such shape.
+pub enum Num {
+    Got(u32, Cursor),
+    Missing,
+}
+
+// A name's kind, which of its kind it is, and the place after it, or no name.
+pub enum Word {
+    Got(u8, u8, Cursor),
+    Missing,
+}
+
+// How a name is written: all small, one capital and then small, or otherwise.
+pub enum Spelling {
+    Small,
+    Capital,
+    Other,
+}

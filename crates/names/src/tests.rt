@@ -1,0 +1,10 @@
+// Tests of numbers.
+ghost use mathlib.Core.Path.{_≡_};
+ghost use Rattle.names.specs.Tests as t;
+
+// Whether a number is from lo to hi.
+pub fn within(lo: u32, hi: u32, n: u32) -> bool
+    ensures { λ r. ⌜ r ≡ t.within lo hi n ⌝ }
+{
+    if lo <= n { n <= hi } else { false }
+}
