@@ -36,3 +36,12 @@ pub record Named : Type 0 where
 
 abbrev pub named : {m : Read names.Word} {r x : Word} → m ≡ seenWord r → r ≡ x → Named
 named {m} {r} {x} p e = record { m = m; x = x; is = p ∙ ap seenWord e }
+
+-- any other answer as a match found it: the definition m is v
+pub record Said (A : Type 0) : Type 0 where
+  pub m : Read A
+  pub v : Read A
+  pub is : m ≡ v
+
+abbrev pub said : {A : Type 0} {m v w : Read A} → m ≡ v → v ≡ w → Said A
+said {m = m} {v} {w} p e = record { m = m; v = w; is = p ∙ e }

@@ -1,0 +1,4 @@
+pub mod Laws
+pub mod Apart
+pub mod Cut
+pub mod Anywhere

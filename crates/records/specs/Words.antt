@@ -1,0 +1,65 @@
+-- Record words: 16 to a record, unused words are 0.
+use Prim.Native.Nat.{ℕ, _-_}
+use mathlib.Core.List.{List, [], _∷_, _++_}
+use mathlib.Core.Bool.{Bool, true, false}
+use lib.IntN.{ℤ, pos, negsuc, negℤ}
+use lib.ListN.{length, replicate}
+use Rattle.names.specs.Tests.{if_then_else_}
+use Rattle.records.specs.declared.Signed.{Signed}
+use Rattle.records.specs.declared.Day.{Day}
+use Rattle.records.specs.declared.Day.the-variants.{Fixed, Weekday, Easter}
+use Rattle.records.specs.declared.Date.{Date}
+use Rattle.records.specs.declared.DateOffset.{DateOffset}
+use Rattle.records.specs.declared.Time.{Time}
+use Rattle.records.specs.declared.Time.the-variants as time
+use Rattle.records.specs.declared.Repeat.{Repeat}
+use Rattle.records.specs.declared.Repeat.the-variants.{Never, Every}
+use Rattle.records.specs.declared.Item.{Item}
+use Rattle.records.specs.declared.Item.the-variants.{Years, Months, Dates, Weeks, Weekdays, Holidays, Times}
+
+-- 16 words: these, and zeros
+abbrev pub record16 : List ℤ → List ℤ
+record16 ws = ws ++ replicate (16 - length ws) (pos 0)
+
+-- a number that is added, or taken off
+abbrev pub wordOf : Signed → ℤ
+wordOf x = if x.less then negℤ (pos x.n) else pos x.n
+
+-- form, year or 0, month, day or weekday, n signed
+abbrev pub dayWords : ℕ → Day → List ℤ
+dayWords y (Fixed m d) = pos 1 ∷ pos y ∷ pos m ∷ pos d ∷ pos 0 ∷ []
+dayWords y (Weekday m w n) = pos 2 ∷ pos y ∷ pos m ∷ pos w ∷ wordOf n ∷ []
+dayWords y Easter = pos 3 ∷ pos y ∷ pos 0 ∷ pos 0 ∷ pos 0 ∷ []
+
+-- a date's seven words: those, its weekday offset and its day offset
+abbrev pub dateWords : Date → DateOffset → List ℤ
+dateWords d o = dayWords d.year d.day ++ (wordOf o.wday ∷ wordOf o.days ∷ [])
+
+-- kind and minutes
+abbrev pub timeWords : Time → List ℤ
+timeWords (time.Fixed m) = pos 0 ∷ pos m ∷ []
+timeWords (time.Sun e m) = pos e ∷ wordOf m ∷ []
+
+-- the repeat in minutes or -1
+abbrev pub repeatWord : Repeat → ℤ
+repeatWord Never = negsuc 0
+repeatWord (Every m) = pos m
+
+-- open end 0/1
+abbrev pub bit : Bool → ℤ
+bit false = pos 0
+bit true = pos 1
+
+-- the words of an item that are used
+abbrev pub itemWords : Item → List ℤ
+itemWords (Years r) = pos 2 ∷ pos r.first ∷ pos r.last ∷ pos r.step ∷ []
+itemWords (Months r) = pos 3 ∷ pos r.year ∷ pos r.first ∷ pos r.last ∷ []
+itemWords (Dates r) = pos 4 ∷ dateWords r.start r.before ++ dateWords r.end r.behind
+itemWords (Weeks r) = pos 5 ∷ pos r.first ∷ pos r.last ∷ pos r.step ∷ []
+itemWords (Weekdays r) = pos 6 ∷ pos r.first ∷ pos r.last ∷ wordOf r.days ∷ pos r.starts ∷ pos r.ends ∷ []
+itemWords (Holidays r) = pos 7 ∷ pos r.kind ∷ wordOf r.days ∷ []
+itemWords (Times r) = pos 8 ∷ timeWords r.start ++ timeWords r.end ++ (repeatWord r.repeats ∷ bit r.plus ∷ [])
+
+-- the 16 words of an item
+unfoldable pub wordsOf : Item → List ℤ
+wordsOf a = record16 (itemWords a)

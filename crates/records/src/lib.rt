@@ -1,0 +1,120 @@
+// What an item of a rule is, and the words of its record.
+mod judge;
+mod words;
+
+pub use judge::judged;
+use names::Cursor;
+pub use words::words_of;
+
+// A number that is added, or taken off.
+pub struct Signed {
+    pub less: bool,
+    pub n: u16,
+}
+
+// Years from first to last, each step'th.
+pub struct YearRange {
+    pub first: u16,
+    pub last: u16,
+    pub step: u16,
+}
+
+// Weeks from first to last, each step'th.
+pub struct WeekRange {
+    pub first: u16,
+    pub last: u16,
+    pub step: u16,
+}
+
+// Months from first to last, of a year or, where it is 0, of each.
+pub struct MonthSpan {
+    pub year: u16,
+    pub first: u8,
+    pub last: u8,
+}
+
+// What a date has beside its year: a month and a day; a month, a weekday and which one of the month, from its end where `less`; or easter.
+pub enum Day {
+    Fixed(u8, u8),
+    Weekday(u8, u8, Signed),
+    Easter,
+}
+
+// A date, with its year or 0.
+pub struct Date {
+    pub year: u16,
+    pub day: Day,
+}
+
+// A weekday to go to, the previous where `less`, 0 none; and a number of days.
+pub struct DateOffset {
+    pub wday: Signed,
+    pub days: Signed,
+}
+
+// Dates from one to another.
+pub struct DateSpan {
+    pub start: Date,
+    pub before: DateOffset,
+    pub end: Date,
+    pub behind: DateOffset,
+}
+
+// Weekdays from first to last, a number of days later, and their flags from the month's start and from its end.
+pub struct WeekDayRange {
+    pub first: u8,
+    pub last: u8,
+    pub days: Signed,
+    pub starts: u8,
+    pub ends: u8,
+}
+
+// A holiday, 1 public, 2 school, and a number of days.
+pub struct Holiday {
+    pub kind: u8,
+    pub days: Signed,
+}
+
+// A clock time in minutes, or a sun event (1 dawn, 2 sunrise, 3 sunset, 4 dusk) with minutes added or taken off.
+pub enum Time {
+    Fixed(u16),
+    Sun(u8, Signed),
+}
+
+// Whether a span is repeated, and after how many minutes.
+pub enum Repeat {
+    Never,
+    Every(u16),
+}
+
+// A span of times, and whether its end is open (a plus).
+pub struct Span {
+    pub start: Time,
+    pub end: Time,
+    pub repeats: Repeat,
+    pub plus: bool,
+}
+
+// An item of any kind.
+pub enum Item {
+    Years(YearRange),
+    Months(MonthSpan),
+    Dates(DateSpan),
+    Weeks(WeekRange),
+    Weekdays(WeekDayRange),
+    Holidays(Holiday),
+    Times(Span),
+}
+
+// What a shape comes to when it is judged: an item, or the number that refuses it.
+pub enum Meant {
+    Is(Item),
+    Refused(u8),
+}
+
+// What reading an item answers: the item and the place after it, no such shape, or a refusal with its number and place.
+pub enum ItemRead {
+    Got(Item, Cursor),
+    Missing,
+    Refused(u8, usize),
+}

@@ -1,0 +1,81 @@
+-- Times and spans depend on nothing before their place and nothing from a `;` outside quotes on: the lemmas put together as the definitions are.
+use Prim.Native.Nat.{ℕ, _+_}
+use mathlib.Core.List.{List}
+use mathlib.Core.Bool.{false, not}
+use mathlib.Core.Path.{refl}
+use native.Mathlib.Omega.{arith}
+use lib.ListN.{length}
+use Rattle.names.specs.Names.{event}
+use Rattle.names.proofs.Local.{Stop, keep, Local, loose, free, pure-local, then-local, or-local}
+use Rattle.names.proofs.Cut.{byte-local, hour-local, minute-local, minutes-local}
+use Rattle.names.proofs.NameCut.{name-local}
+use Rattle.records.proofs.Cut.{Alike, Refuses, refuses-if, meant-alike, item-alike}
+use Rattle.records.specs.declared.Meant.the-variants.{Refused}
+use Rattle.times.specs.Times.{clock, moved, movedEvent, rawTime, eventAlone}
+use Rattle.times.specs.Spans.{repeated, tail, untilTime, spanBehind, spanShape, timeItem, eventItemBehind}
+use Rattle.times.specs.Meanings.{goodSpan, spanOf, spanMeaning}
+use Rattle.times.specs.declared.RawTime.{RawTime}
+use Rattle.times.specs.declared.RawSpan.{RawSpan}
+use Rattle.times.specs.declared.RawSpan.the-variants.{Alone, Open, Until}
+
+module _ {u : List ℕ} where
+  pub clock-alike : Alike u 1 clock
+  unfolding clock
+  clock-alike = then-local hour-local (λ h. then-local (free (byte-local 58 refl refl)) (λ _. then-local (free minute-local) (λ m. pure-local _)))
+
+  pub moved-alike : (e : ℕ) → Alike u 1 (moved e)
+  unfolding moved
+  moved-alike e =
+      or-local (then-local (byte-local 43 refl refl) (λ _. then-local (free clock-alike) (λ c. pure-local _)))
+      (then-local (byte-local 45 refl refl) (λ _. then-local (free clock-alike) (λ c. pure-local _)))
+
+  pub movedEvent-alike : Alike u 1 movedEvent
+  unfolding movedEvent
+  movedEvent-alike =
+      then-local (byte-local 40 refl refl) (λ _. then-local (free (name-local event)) (λ e.
+      then-local (free (moved-alike e)) (λ t. then-local (free (byte-local 41 refl refl)) (λ _. pure-local t))))
+
+  pub rawTime-alike : Alike u 1 rawTime
+  unfolding rawTime
+  rawTime-alike = or-local (then-local clock-alike (λ c. pure-local _)) (or-local (then-local (name-local event) (λ e. pure-local _)) movedEvent-alike)
+
+  pub repeated-alike : Alike u 1 repeated
+  unfolding repeated
+  repeated-alike = or-local (then-local clock-alike (λ c. pure-local _)) (loose (then-local minutes-local (λ m. pure-local _)) (omega arith))
+
+  pub tail-alike : Alike u 0 tail
+  unfolding tail
+  tail-alike =
+      or-local (free (then-local (byte-local 43 refl refl) (λ _. pure-local _)))
+      (or-local (free (then-local (byte-local 47 refl refl) (λ _. free repeated-alike))) (pure-local _))
+
+  pub untilTime-alike : (start : RawTime) → Alike u 1 (untilTime start)
+  unfolding untilTime
+  untilTime-alike start = then-local (byte-local 45 refl refl) (λ _. then-local (free rawTime-alike) (λ end. then-local tail-alike (λ t. pure-local _)))
+
+  pub spanBehind-alike : (start : RawTime) → Alike u 0 (spanBehind start)
+  unfolding spanBehind
+  spanBehind-alike start = or-local (free (then-local (byte-local 43 refl refl) (λ _. pure-local _))) (or-local (free (untilTime-alike start)) (pure-local _))
+
+  pub spanShape-alike : Alike u 1 spanShape
+  unfolding spanShape
+  spanShape-alike = then-local rawTime-alike spanBehind-alike
+
+-- a span's refusals have numbers
+pub meaning-refuses : (r : RawSpan) → Refuses (spanMeaning r)
+unfolding spanMeaning
+meaning-refuses r = refuses-if (not (goodSpan r)) (Refused 4) (spanOf r) (omega arith) (go r)
+  where
+    go : (r : RawSpan) → Refuses (spanOf r)
+    go (Alone t) = omega arith
+    go (Open t) = tt
+    go (Until a b t) = tt
+
+-- an item of a time list, and one behind its event
+pub timeItem-alike : {u : List ℕ} → Alike u 1 timeItem
+unfolding timeItem
+timeItem-alike = item-alike spanShape-alike spanMeaning meaning-refuses
+
+pub eventItemBehind-alike : {u : List ℕ} (p e : ℕ) → Local Stop keep u false false 0 (eventItemBehind (length u + p) e) (eventItemBehind p e)
+unfolding eventItemBehind
+eventItemBehind-alike p e = meant-alike (spanBehind-alike (eventAlone e)) spanMeaning meaning-refuses p

@@ -1,0 +1,56 @@
+-- Worked examples of documents 01 and 03, as the definitions compute them.
+use Prim.Native.Nat.{ℕ}
+use Prim.Native.String.{String}
+use mathlib.Core.Bool.{Bool, true, false}
+use mathlib.Core.List.{List, [], _∷_, map}
+use mathlib.Core.Path.{_≡_, refl}
+use Rattle.names.specs.Tests.{within}
+use Rattle.names.specs.Read.{Read, got, none, refused, one, ahead}
+use Rattle.names.specs.Chain.{chainIn, chain, many, skip}
+use Rattle.names.specs.Texts.{bytes, byte, allOf}
+use Rattle.names.specs.Numbers.{isDigit, digit, upTo, digits, clockBehind, number}
+use Rattle.names.specs.Names.{names, spelledSo, lower, letter, firstOf, word, name}
+use Rattle.records.specs.Items.{signed}
+use Rattle.records.specs.declared.Item.{Item}
+use Rattle.records.specs.declared.Item.the-variants.{Times}
+use Rattle.records.specs.declared.Time.{Time}
+use Rattle.records.specs.declared.Time.the-variants.{Fixed, Sun}
+use Rattle.records.specs.declared.Repeat.{Repeat}
+use Rattle.records.specs.declared.Repeat.the-variants.{Never, Every}
+use Rattle.times.specs.Times.{clock, moved, movedEvent, rawTime}
+use Rattle.times.specs.Spans.{repeated, tail, untilTime, spanBehind, spanShape, timeItem}
+use Rattle.times.specs.Meanings.{dayClock, endClock, repeatClock, spanMeaning}
+
+-- a span of times
+span : Time → Time → Repeat → Bool → Item
+span start end repeats plus = Times (record { start = start; end = end; repeats = repeats; plus = plus })
+
+-- a text, a place in it, and what is read there: 4 before 8, and spans are not reordered
+spans : List (String × (ℕ × Read Item))
+spans =
+    ("10:00+", (0, got (span (Fixed 600) (Fixed 1440) Never true) 6))
+    ∷ ("sunrise+", (0, got (span (Sun 2 (signed false 0)) (Fixed 1440) Never true) 8))
+    ∷ ("10:00-12:00+", (0, got (span (Fixed 600) (Fixed 720) Never true) 12))
+    ∷ ("10:00-48:00", (0, got (span (Fixed 600) (Fixed 2880) Never false) 11))
+    ∷ ("10:00-0:00", (0, got (span (Fixed 600) (Fixed 0) Never false) 10))
+    ∷ ("24:00-26:00", (0, got (span (Fixed 1440) (Fixed 1560) Never false) 11))
+    ∷ ("(dawn-1:30)-(dusk+0:15)", (0, got (span (Sun 1 (signed true 90)) (Sun 4 (signed false 15)) Never false) 23))
+    ∷ ("10:00-12:00/23:59", (0, got (span (Fixed 600) (Fixed 720) (Every 1439) false) 17))
+    ∷ ("10:00-12:00/00", (0, got (span (Fixed 600) (Fixed 720) (Every 0) false) 14))
+    ∷ ("10:00-12:00/1:3", (0, got (span (Fixed 600) (Fixed 720) Never false) 11))
+    ∷ ("10:00-12:00/90", (0, refused 4 0))
+    ∷ ("10:00-12:00/24:00", (0, refused 4 0))
+    ∷ ("10:00-48:01", (0, refused 4 0))
+    ∷ ("10:00-47:60", (0, refused 4 0))
+    ∷ ("(sunset+24:01)-26:00", (0, refused 4 0))
+    ∷ ("10:00-(sunset+25:00)", (0, refused 4 0))
+    ∷ ("10:60", (0, refused 4 0))
+    ∷ ("10:00", (0, refused 8 0))
+    ∷ ("Mo 10:00-", (3, refused 8 3))
+    ∷ ("Mo", (0, none))
+    ∷ []
+
+spans-right : map (λ e. timeItem (bytes (e .0)) (e .1 .0)) spans ≡ map (λ e. e .1 .1) spans
+unfolding spans span timeItem spanShape spanBehind untilTime tail repeated rawTime movedEvent moved clock spanMeaning dayClock endClock repeatClock
+    number digits upTo digit isDigit within clockBehind skip many chain chainIn byte one ahead name word firstOf names allOf letter spelledSo lower
+spans-right = refl

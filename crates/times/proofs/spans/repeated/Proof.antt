@@ -1,0 +1,35 @@
+-- `times::spans::repeated` meets its contract.
+use borrow.Author.Needs.{needs}
+use native.Mathlib.Omega.{arith}
+use mathlib.Core.Path.{ap}
+use Rattle.names.proofs.Facts.{Was, was, Said, said}
+use Rattle.times.specs.Spans.{repeated}
+use Rattle.times.specs.Seen.{seenClock}
+use Rattle.times.specs.declared.Clock.{Clock}
+use Rattle.times.proofs.spans.repeated.Statement.{statement}
+use Rattle.times.proofs.spans.repeated.Tie as tie
+
+abbrev hours : tie.After-hours → Said Clock
+hours c = said (c .before .before .clock .ensures) (ap seenClock (c .hours .given .1))
+
+abbrev no-clock : tie.After-enum-told → Said Clock
+no-clock c = said (c .before .before .clock .ensures) (ap seenClock (c .enum-told .given .1))
+
+abbrev minutes : tie.After-minutes2 → Said Clock × Was
+minutes c = (no-clock (c .before .before .before), was (c .before .before .minutes .ensures) (c .minutes2 .given .1))
+
+pub repeated-spec : {M : Type 1} → statement M
+unfolding repeated
+repeated-spec =
+    tie.close
+    (tie.spec
+    (λ c κs. search needs)  -- clock-requires
+    (λ c. search needs)  -- enum-known-hours
+    (λ c. let w = hours (c .before) in rw (w .is))  -- returns
+    (λ c. search needs)  -- enum-told
+    (λ c κs. search needs)  -- minutes-requires
+    (λ c. search needs)  -- enum-known-minutes
+    (λ c. search needs)  -- enum-told-2
+    (λ c. let w = no-clock (c .before .before .before) in let v = was (c .before .before .minutes .ensures) (c .enum-told2 .given .1) in rw (w .is, v .is))  -- returns-2
+    (λ c. omega (arith, minutes (c .before) .1 .small))  -- cast-t10
+    (λ c. let w = minutes (c .before) in rw (w .0 .is, w .1 .is)))  -- returns-3

@@ -1,0 +1,89 @@
+-- Ranges: MM 0 to 59; hour 0 to 23 with 24:00 besides; as a span's end 0:00 to 48:00. `/24:00` is out of range.
+-- `10:00+` ends at 24:00, open. Spans are not reordered. A time alone is refused as 8.
+use Prim.Native.Nat.{ℕ, _+_, _*_}
+use mathlib.Core.Bool.{Bool, true, false, _&&_, _||_, not}
+use lib.Dec.{leb, eqb}
+use Rattle.names.specs.Tests.{if_then_else_}
+use Rattle.records.specs.Items.{signed}
+use Rattle.records.specs.declared.Time.{Time}
+use Rattle.records.specs.declared.Time.the-variants as time
+use Rattle.records.specs.declared.Repeat.{Repeat}
+use Rattle.records.specs.declared.Repeat.the-variants.{Never, Every}
+use Rattle.records.specs.declared.Item.the-variants.{Times}
+use Rattle.records.specs.declared.Meant.{Meant}
+use Rattle.records.specs.declared.Meant.the-variants.{Is, Refused}
+use Rattle.times.specs.declared.Clock.{Clock}
+use Rattle.times.specs.declared.RawTime.{RawTime}
+use Rattle.times.specs.declared.RawTime.the-variants.{Fixed, Sun}
+use Rattle.times.specs.declared.RawTail.{RawTail}
+use Rattle.times.specs.declared.RawTail.the-variants.{Nothing, Plus, Minutes, Hours}
+use Rattle.times.specs.declared.RawSpan.{RawSpan}
+use Rattle.times.specs.declared.RawSpan.the-variants.{Alone, Open, Until}
+
+-- minutes since midnight
+abbrev pub minutesOf : Clock → ℕ
+minutesOf c = c.hour * 60 + c.minute
+
+-- hour 0 to 23 with 24:00 besides, MM 0 to 59
+unfoldable pub dayClock : Clock → Bool
+dayClock c = leb c.minute 59 && (leb c.hour 23 || eqb (minutesOf c) 1440)
+
+-- as a span's end 0:00 to 48:00
+unfoldable pub endClock : Clock → Bool
+endClock c = leb c.minute 59 && leb (minutesOf c) 2880
+
+-- a repeat: `/24:00` is out of range
+unfoldable pub repeatClock : Clock → Bool
+repeatClock c = leb c.minute 59 && leb c.hour 23
+
+-- a start in range
+abbrev pub goodStart : RawTime → Bool
+goodStart (Fixed c) = dayClock c
+goodStart (Sun e less c) = dayClock c
+
+-- an end in range
+abbrev pub goodEnd : RawTime → Bool
+goodEnd (Fixed c) = endClock c
+goodEnd (Sun e less c) = dayClock c
+
+-- a tail in range
+abbrev pub goodTail : RawTail → Bool
+goodTail Nothing = true
+goodTail Plus = true
+goodTail (Minutes m) = leb m 59
+goodTail (Hours c) = repeatClock c
+
+-- a span in range
+abbrev pub goodSpan : RawSpan → Bool
+goodSpan (Alone t) = goodStart t
+goodSpan (Open t) = goodStart t
+goodSpan (Until a b t) = goodStart a && goodEnd b && goodTail t
+
+-- a clock time in minutes, or an event with minutes added or taken off
+abbrev pub timeOf : RawTime → Time
+timeOf (Fixed c) = time.Fixed (minutesOf c)
+timeOf (Sun e less c) = time.Sun e (signed less (minutesOf c))
+
+-- the repeat
+abbrev pub repeatOf : RawTail → Repeat
+repeatOf Nothing = Never
+repeatOf Plus = Never
+repeatOf (Minutes m) = Every m
+repeatOf (Hours c) = Every (minutesOf c)
+
+-- whether the end is open
+abbrev pub plusOf : RawTail → Bool
+plusOf Nothing = false
+plusOf Plus = true
+plusOf (Minutes m) = false
+plusOf (Hours c) = false
+
+-- what a span in range is
+abbrev pub spanOf : RawSpan → Meant
+spanOf (Alone t) = Refused 8
+spanOf (Open t) = Is (Times (record { start = timeOf t; end = time.Fixed 1440; repeats = Never; plus = true }))
+spanOf (Until a b t) = Is (Times (record { start = timeOf a; end = timeOf b; repeats = repeatOf t; plus = plusOf t }))
+
+-- the meaning: 4, then 8
+unfoldable pub spanMeaning : RawSpan → Meant
+spanMeaning r = if not (goodSpan r) then Refused 4 else spanOf r

@@ -1,0 +1,48 @@
+-- Span: time`+`; or time`-`end and then nothing, `+`, `/MM` or `/H:MM`; a time alone is a shape too.
+use Prim.Native.Nat.{ℕ}
+use Rattle.names.specs.Read.{Reader, pure, _>>=_, _>>_, _or_}
+use Rattle.names.specs.Texts.{sign}
+use Rattle.names.specs.Numbers.{minutes}
+use Rattle.records.specs.Items.{item, meant}
+use Rattle.records.specs.declared.Item.{Item}
+use Rattle.times.specs.Times.{clock, rawTime, eventAlone}
+use Rattle.times.specs.Meanings.{spanMeaning}
+use Rattle.times.specs.declared.RawTime.{RawTime}
+use Rattle.times.specs.declared.RawTail.{RawTail}
+use Rattle.times.specs.declared.RawTail.the-variants.{Nothing, Plus, Minutes, Hours}
+use Rattle.times.specs.declared.RawSpan.{RawSpan}
+use Rattle.times.specs.declared.RawSpan.the-variants.{Alone, Open, Until}
+
+-- behind `/`: `H:MM` or `MM`
+unfoldable pub repeated : Reader RawTail
+repeated = (do c ← clock; pure (Hours c)) or (do m ← minutes; pure (Minutes m))
+
+-- what stands behind a span's end: `+`, `/MM` or `/H:MM`, or nothing
+unfoldable pub tail : Reader RawTail
+tail = (do sign "+"; pure Plus) or (do sign "/"; repeated) or pure Nothing
+
+-- behind a start: `-` and an end, and what stands behind it
+unfoldable pub untilTime : RawTime → Reader RawSpan
+untilTime start = do
+  sign "-"
+  end ← rawTime
+  t ← tail
+  pure (Until start end t)
+
+-- the shape behind its start
+unfoldable pub spanBehind : RawTime → Reader RawSpan
+spanBehind start = (do sign "+"; pure (Open start)) or untilTime start or pure (Alone start)
+
+-- the shape of a span
+unfoldable pub spanShape : Reader RawSpan
+spanShape = do
+  start ← rawTime
+  spanBehind start
+
+-- an item of a time list
+unfoldable pub timeItem : Reader Item
+timeItem = item spanShape spanMeaning
+
+-- the item that begins at p with an event e, behind the event
+unfoldable pub eventItemBehind : ℕ → ℕ → Reader Item
+eventItemBehind p e = meant p (spanBehind (eventAlone e)) spanMeaning

@@ -1,0 +1,49 @@
+-- Time: `H:MM`, or an event (`dawn`, `sunrise`, `sunset`, `dusk`), or `(event±H:MM)`.
+use Prim.Native.Nat.{ℕ}
+use mathlib.Core.Bool.{Bool, true, false}
+use Rattle.names.specs.Read.{Read, got, none, refused, Reader, pure, _>>=_, _>>_, _or_}
+use Rattle.names.specs.Texts.{sign}
+use Rattle.names.specs.Numbers.{hour, minute}
+use Rattle.names.specs.Names.{name, event}
+use Rattle.times.specs.declared.Clock.{Clock}
+use Rattle.times.specs.declared.RawTime.{RawTime}
+use Rattle.times.specs.declared.RawTime.the-variants.{Fixed, Sun}
+
+-- hours and minutes
+abbrev pub clockOf : ℕ → ℕ → Clock
+clockOf hour minute = record { hour = hour; minute = minute }
+
+-- `H:MM`
+unfoldable pub clock : Reader Clock
+clock = do
+  h ← hour
+  sign ":"
+  m ← minute
+  pure (clockOf h m)
+
+-- an event as it stands
+abbrev pub eventAlone : ℕ → RawTime
+eventAlone e = Sun e false (clockOf 0 0)
+
+-- a reading of a clock time that is added to an event, or taken off
+abbrev pub sunOf : ℕ → Bool → Read Clock → Read RawTime
+sunOf e less (got c j) = got (Sun e less c) j
+sunOf e less none = none
+sunOf e less (refused k p) = refused k p
+
+-- behind `(` and an event: `±H:MM`
+unfoldable pub moved : ℕ → Reader RawTime
+moved e = (do sign "+"; c ← clock; pure (Sun e false c)) or (do sign "-"; c ← clock; pure (Sun e true c))
+
+-- `(event±H:MM)`
+unfoldable pub movedEvent : Reader RawTime
+movedEvent = do
+  sign "("
+  e ← name event
+  t ← moved e
+  sign ")"
+  pure t
+
+-- a time
+unfoldable pub rawTime : Reader RawTime
+rawTime = (do c ← clock; pure (Fixed c)) or (do e ← name event; pure (eventAlone e)) or movedEvent

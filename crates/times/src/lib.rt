@@ -1,0 +1,71 @@
+// Times: clock times, sun events and spans of them.
+mod clocks;
+mod meaning;
+mod spans;
+
+use names::Cursor;
+pub use spans::event_item_behind;
+pub use spans::time_item;
+
+// A clock time as it is read.
+pub struct Clock {
+    pub hour: u8,
+    pub minute: u8,
+}
+
+// A time as it is read: a clock time, or an event with a clock time added to it, or taken off where the flag is set.
+pub enum RawTime {
+    Fixed(Clock),
+    Sun(u8, bool, Clock),
+}
+
+// What stands behind a span's end, as it is read: nothing, a plus, or a repeat.
+pub enum RawTail {
+    Nothing,
+    Plus,
+    Minutes(u8),
+    Hours(Clock),
+}
+
+// A span as it is read: a time alone, a time and a plus, or two times.
+pub enum RawSpan {
+    Alone(RawTime),
+    Open(RawTime),
+    Until(RawTime, RawTime, RawTail),
+}
+
+// What reading a clock time finds.
+pub enum ClockRead {
+    Got(Clock, Cursor),
+    Missing,
+}
+
+// What reading a time finds.
+pub enum TimeRead {
+    Got(RawTime, Cursor),
+    Missing,
+}
+
+// What reading a repeat finds behind a slash.
+pub enum TailRead {
+    Got(RawTail, Cursor),
+    Missing,
+}
+
+// What stands behind a span's end, and the place after it.
+pub struct TailThen {
+    pub tail: RawTail,
+    pub next: Cursor,
+}
+
+// What reading a span finds behind a minus.
+pub enum SpanRead {
+    Got(RawSpan, Cursor),
+    Missing,
+}
+
+// A span as it is read, and the place after it.
+pub struct SpanThen {
+    pub span: RawSpan,
+    pub next: Cursor,
+}

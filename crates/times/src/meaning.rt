@@ -1,0 +1,180 @@
+// What a span means: its numbers' ranges, and the item.
+ghost use mathlib.Core.Path.{_≡_};
+ghost use Rattle.times.specs.Meanings as meanings;
+use crate::Clock;
+use crate::RawSpan;
+use crate::RawTail;
+use crate::RawTime;
+use records::Item;
+use records::Meant;
+use records::Repeat;
+use records::Signed;
+use records::Span;
+use records::Time;
+
+// Minutes since midnight.
+fn minutes_of(c: Clock) -> u16
+    ensures { λ r. ⌜ r ≡ meanings.minutesOf c ⌝ }
+{
+    (c.hour as u16) * 60 + (c.minute as u16)
+}
+
+// Hour 0 to 23 with 24:00 besides, MM 0 to 59.
+fn day_clock(c: Clock) -> bool
+    ensures { λ r. ⌜ r ≡ meanings.dayClock c ⌝ }
+{
+    if c.minute <= 59 {
+        if c.hour <= 23 {
+            true
+        } else {
+            minutes_of(c) == 1440
+        }
+    } else {
+        false
+    }
+}
+
+// As a span's end 0:00 to 48:00.
+fn end_clock(c: Clock) -> bool
+    ensures { λ r. ⌜ r ≡ meanings.endClock c ⌝ }
+{
+    if c.minute <= 59 {
+        minutes_of(c) <= 2880
+    } else {
+        false
+    }
+}
+
+// A repeat: `/24:00` is out of range.
+fn repeat_clock(c: Clock) -> bool
+    ensures { λ r. ⌜ r ≡ meanings.repeatClock c ⌝ }
+{
+    if c.minute <= 59 { c.hour <= 23 } else { false }
+}
+
+// A start in range.
+fn good_start(t: RawTime) -> bool
+    ensures { λ r. ⌜ r ≡ meanings.goodStart t ⌝ }
+{
+    match t {
+        RawTime::Fixed(c) => day_clock(c),
+        RawTime::Sun(_, _, c) => day_clock(c),
+    }
+}
+
+// An end in range.
+fn good_end(t: RawTime) -> bool
+    ensures { λ r. ⌜ r ≡ meanings.goodEnd t ⌝ }
+{
+    match t {
+        RawTime::Fixed(c) => end_clock(c),
+        RawTime::Sun(_, _, c) => day_clock(c),
+    }
+}
+
+// A tail in range.
+fn good_tail(t: RawTail) -> bool
+    ensures { λ r. ⌜ r ≡ meanings.goodTail t ⌝ }
+{
+    match t {
+        RawTail::Nothing => true,
+        RawTail::Plus => true,
+        RawTail::Minutes(m) => m <= 59,
+        RawTail::Hours(c) => repeat_clock(c),
+    }
+}
+
+// A span in range.
+fn good_span(r: RawSpan) -> bool
+    ensures { λ x. ⌜ x ≡ meanings.goodSpan r ⌝ }
+{
+    match r {
+        RawSpan::Alone(t) => good_start(t),
+        RawSpan::Open(t) => good_start(t),
+        RawSpan::Until(a, b, t) => {
+            if good_start(a) {
+                if good_end(b) { good_tail(t) } else { false }
+            } else {
+                false
+            }
+        }
+    }
+}
+
+// A clock time in minutes, or an event with minutes added or taken off.
+fn time_of(t: RawTime) -> Time
+    ensures { λ r. ⌜ r ≡ meanings.timeOf t ⌝ }
+{
+    match t {
+        RawTime::Fixed(c) => Time::Fixed(minutes_of(c)),
+        RawTime::Sun(e, less, c) => {
+            let n = minutes_of(c);
+            Time::Sun(e, Signed { less, n })
+        }
+    }
+}
+
+// The repeat.
+fn repeat_of(t: RawTail) -> Repeat
+    ensures { λ r. ⌜ r ≡ meanings.repeatOf t ⌝ }
+{
+    match t {
+        RawTail::Nothing => Repeat::Never,
+        RawTail::Plus => Repeat::Never,
+        RawTail::Minutes(m) => Repeat::Every(m as u16),
+        RawTail::Hours(c) => Repeat::Every(minutes_of(c)),
+    }
+}
+
+// Whether the end is open.
+fn plus_of(t: RawTail) -> bool
+    ensures { λ r. ⌜ r ≡ meanings.plusOf t ⌝ }
+{
+    match t {
+        RawTail::Nothing => false,
+        RawTail::Plus => true,
+        RawTail::Minutes(_) => false,
+        RawTail::Hours(_) => false,
+    }
+}
+
+// What a span in range is: a time alone is refused, `10:00+` ends at 24:00, open.
+fn span_of(r: RawSpan) -> Meant
+    ensures { λ x. ⌜ x ≡ meanings.spanOf r ⌝ }
+{
+    match r {
+        RawSpan::Alone(_) => Meant::Refused(8),
+        RawSpan::Open(t) => {
+            let start = time_of(t);
+            Meant::Is(Item::Times(Span {
+                start,
+                end: Time::Fixed(1440),
+                repeats: Repeat::Never,
+                plus: true,
+            }))
+        }
+        RawSpan::Until(a, b, t) => {
+            let start = time_of(a);
+            let end = time_of(b);
+            let repeats = repeat_of(t);
+            let plus = plus_of(t);
+            Meant::Is(Item::Times(Span {
+                start,
+                end,
+                repeats,
+                plus,
+            }))
+        }
+    }
+}
+
+// The meaning.
+pub fn span_meaning(r: RawSpan) -> Meant
+    ensures { λ x. ⌜ x ≡ meanings.spanMeaning r ⌝ }
+{
+    if good_span(r) {
+        span_of(r)
+    } else {
+        Meant::Refused(4)
+    }
+}

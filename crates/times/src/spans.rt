@@ -1,0 +1,138 @@
+// Span: time`+`; or time`-`end and then nothing, `+`, `/MM` or `/H:MM`; or a time alone.
+ghost use mathlib.Core.Path.{_≡_};
+ghost use Rattle.records.specs.Items.{meant};
+ghost use Rattle.records.specs.Seen.{seenItem};
+ghost use Rattle.times.specs.Meanings as meanings;
+ghost use Rattle.times.specs.Spans as spans;
+ghost use Rattle.times.specs.Seen.{seenTail, thenTail, seenSpan, thenSpan};
+use crate::Clock;
+use crate::ClockRead;
+use crate::RawSpan;
+use crate::RawTail;
+use crate::RawTime;
+use crate::SpanRead;
+use crate::SpanThen;
+use crate::TailRead;
+use crate::TailThen;
+use crate::TimeRead;
+use crate::clocks::clock;
+use crate::clocks::raw_time;
+use crate::meaning::span_meaning;
+use names::Cursor;
+use names::Num;
+use names::Step;
+use records::ItemRead;
+use records::judged;
+
+// Behind a slash: `H:MM` or `MM`.
+fn repeated(s: &[u8], c: Cursor) -> TailRead
+    ensures { λ r. ⌜ spans.repeated (now (s .entry)) (c .at) ≡ seenTail r ⌝ }
+{
+    let hours = clock(s, c);
+    if let ClockRead::Got(t, d) = hours {
+        return TailRead::Got(RawTail::Hours(t), d);
+    }
+    let minutes = c.minutes(s);
+    let Num::Got(m, e) = minutes else {
+        return TailRead::Missing;
+    };
+    TailRead::Got(RawTail::Minutes(m as u8), e)
+}
+
+// What stands behind a span's end: `+`, `/MM` or `/H:MM`, or nothing.
+fn tail(s: &[u8], c: Cursor) -> TailThen
+    ensures { λ r. ⌜ spans.tail (now (s .entry)) (c .at) ≡ thenTail r ⌝ }
+{
+    let nothing = TailThen {
+        tail: RawTail::Nothing,
+        next: c,
+    };
+    let plus = c.sign(s, 43);
+    if let Step::Got(d) = plus {
+        return TailThen {
+            tail: RawTail::Plus,
+            next: d,
+        };
+    }
+    let slash = c.sign(s, 47);
+    let Step::Got(e) = slash else {
+        return nothing;
+    };
+    let again = repeated(s, e);
+    match again {
+        TailRead::Got(t, f) => TailThen { tail: t, next: f },
+        TailRead::Missing => nothing,
+    }
+}
+
+// Behind a start: `-` and an end, and what stands behind it.
+fn until_time(s: &[u8], c: Cursor, start: RawTime) -> SpanRead
+    ensures { λ r. ⌜ spans.untilTime start (now (s .entry)) (c .at) ≡ seenSpan r ⌝ }
+{
+    let minus = c.sign(s, 45);
+    let Step::Got(d) = minus else {
+        return SpanRead::Missing;
+    };
+    let time = raw_time(s, d);
+    let TimeRead::Got(end, e) = time else {
+        return SpanRead::Missing;
+    };
+    let t = tail(s, e);
+    let last = t.tail;
+    let next = t.next;
+    SpanRead::Got(RawSpan::Until(start, end, last), next)
+}
+
+// The shape of a span behind its start.
+fn span_behind(s: &[u8], c: Cursor, start: RawTime) -> SpanThen
+    ensures { λ r. ⌜ spans.spanBehind start (now (s .entry)) (c .at) ≡ thenSpan r ⌝ }
+{
+    let plus = c.sign(s, 43);
+    if let Step::Got(d) = plus {
+        return SpanThen {
+            span: RawSpan::Open(start),
+            next: d,
+        };
+    }
+    let until = until_time(s, c, start);
+    match until {
+        SpanRead::Got(span, e) => SpanThen { span, next: e },
+        SpanRead::Missing => SpanThen {
+            span: RawSpan::Alone(start),
+            next: c,
+        },
+    }
+}
+
+// The item that begins at p, behind its start.
+fn span_item_behind(s: &[u8], p: usize, c: Cursor, start: RawTime) -> ItemRead
+    ensures { λ r. ⌜ meant p (spans.spanBehind start) meanings.spanMeaning (now (s .entry)) (c .at) ≡ seenItem r ⌝ }
+{
+    let shape = span_behind(s, c, start);
+    let span = shape.span;
+    let next = shape.next;
+    judged(p, span_meaning(span), next)
+}
+
+// An item of a time list.
+pub fn time_item(s: &[u8], c: Cursor) -> ItemRead
+    ensures { λ r. ⌜ spans.timeItem (now (s .entry)) (c .at) ≡ seenItem r ⌝ }
+{
+    let first = raw_time(s, c);
+    let TimeRead::Got(start, d) = first else {
+        return ItemRead::Missing;
+    };
+    span_item_behind(s, c.at, d, start)
+}
+
+// The item that begins at p with an event, behind the event.
+pub fn event_item_behind(s: &[u8], p: usize, c: Cursor, event: u8) -> ItemRead
+    ensures { λ r. ⌜ spans.eventItemBehind p event (now (s .entry)) (c .at) ≡ seenItem r ⌝ }
+{
+    span_item_behind(
+        s,
+        p,
+        c,
+        RawTime::Sun(event, false, Clock { hour: 0, minute: 0 }),
+    )
+}
