@@ -10,7 +10,7 @@ use borrow.Author.Tests.{lt-ltb, le-ltb, le-leb, lt-leb, eq-eqb, ne-eqb}
 use lib.Dec.{eqb}
 use lib.ListN.{length, getD, List·getD-eq-default}
 use Rattle.names.specs.Tests.{within}
-use Rattle.names.specs.Read.{got, none, when, one, ahead}
+use Rattle.names.specs.Read.{Read, got, none, refused, Reader, follow, pure, when, one, ahead}
 
 -- a byte of the text that passes a test, or does not, or the text's end
 pub one-got : (p : ℕ → Bool) (s : List ℕ) (i : ℕ) → i < length s → p (getD s i 0) ≡ true → one p s i ≡ got (getD s i 0) (i + 1)
@@ -77,3 +77,9 @@ within-one n b = go (decLt b n) (decLt n b)
     go (yes p) q = ne-eqb n b (λ e. omega arith) ∙ sym (within-below n n b p)
     go (no p) (yes q) = ne-eqb n b (λ e. omega arith) ∙ sym (within-above n n b (omega arith) q)
     go (no p) (no q) = eq-eqb n b (omega arith) ∙ sym (within-true n n b (omega arith) (omega arith))
+
+-- what reads nothing may be left out
+pub or-none : {A : Type 0} (s : List ℕ) (i : ℕ) (r : Read A) (n : Reader A) → n s i ≡ none → follow s i r pure n ≡ r
+or-none s i (got a j) n h = refl
+or-none s i none n h = h
+or-none s i (refused k p) n h = refl

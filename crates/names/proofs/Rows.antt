@@ -14,11 +14,11 @@ use Rattle.names.specs.Names.{Row, names, lower}
 use Rattle.names.specs.Table.{begins, beginning, padTo, rowOf, padded, rowsOf}
 
 -- a test of all numbers below n
-allBelow : ℕ → (ℕ → Bool) → Bool
+unfoldable pub allBelow : ℕ → (ℕ → Bool) → Bool
 allBelow zero p = true
 allBelow (suc n) p = p n && allBelow n p
 
-below : (n : ℕ) (p : ℕ → Bool) → allBelow n p ≡ true → (k : ℕ) → k < n → p k ≡ true
+pub below : (n : ℕ) (p : ℕ → Bool) → allBelow n p ≡ true → (k : ℕ) → k < n → p k ≡ true
 unfolding allBelow
 below zero p e k h = absurd (omega arith)
 below (suc n) p e k h = go (λ q. below n p (both .1) k q) (decLt k n)
@@ -48,11 +48,11 @@ unfolding member
 absent b [] a = refl
 absent b (x ∷ xs) a = rw (ne-eqb b x (a .1)) (absent b xs (a .0))
 
-empty : List Row → Bool
+unfoldable pub empty : List Row → Bool
 empty [] = true
 empty (r ∷ rs) = false
 
-empty-is : (rs : List Row) → empty rs ≡ true → rs ≡ []
+pub empty-is : (rs : List Row) → empty rs ≡ true → rs ≡ []
 unfolding empty
 empty-is [] e = refl
 empty-is (r ∷ rs) e = absurd (true≢false (sym e))

@@ -17,7 +17,7 @@ use Rattle.names.specs.Texts.{allOf}
 use Rattle.names.specs.Names.{Row, Word, names, spelledSo, lower, letter, firstOf, word}
 use Rattle.names.specs.Table.{begins, beginning, padded}
 use Rattle.names.proofs.Laws.{one-got, one-other, one-past, inside, within-true, within-below, within-above}
-use Rattle.names.proofs.Rows.{nobody, all-good, names-good, Good, good-split, name-good, row-at, row-end, letter-at, letters-end, letter-some, mark-at}
+use Rattle.names.proofs.Rows.{nobody, all-good, names-good, Good, good-split, name-good, row-at, row-end, letter-at, letters-end, letter-some, mark-at, allBelow, below, empty, empty-is}
 
 -- a small letter's small letter is itself
 lower-twice : (b : ℕ) → lower (lower b) ≡ lower b
@@ -100,6 +100,26 @@ word-nearby s i = only-beginning s i names names-good
 none-begins : beginning (lower 0) names ≡ []
 unfolding beginning names lower within
 none-begins = refl
+
+-- nor with any byte below the letters
+below-letters : ℕ → Bool
+below-letters b = empty (beginning (lower b) names)
+
+none-below : allBelow 65 below-letters ≡ true
+unfolding allBelow below-letters empty beginning names lower within
+none-below = refl
+
+pub no-word : (s : List ℕ) (i : ℕ) → getD s i 0 < 65 → word s i ≡ none
+unfolding below-letters firstOf
+no-word s i h = word-nearby s i ∙ ap (λ (rs : List Row). firstOf rs s i) (empty-is (nearby s i) (below 65 below-letters none-below (getD s i 0) h))
+
+-- so where a name stands, its first byte is no digit and no sign
+pub word-letter : (s : List ℕ) (i : ℕ) {v : Word} {j : ℕ} → word s i ≡ got v j → 65 ≤ getD s i 0
+word-letter s i {v} {j} e = go (decLt (getD s i 0) 65)
+  where
+    go : Dec (getD s i 0 < 65) → 65 ≤ getD s i 0
+    go (yes h) = let q = no-word s i h in absurd (let z : _≡_ {A = ℕ} 0 1 = cc in omega arith)
+    go (no h) = omega arith
 
 -- where there are any, the place stands in the text
 pub nearby-inside : (s : List ℕ) (i : ℕ) → 1 ≤ length (nearby s i) → i < length s

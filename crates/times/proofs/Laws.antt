@@ -7,14 +7,11 @@ use native.Mathlib.Omega.{arith}
 use borrow.Author.Tests.{eqb-true, ne-eqb}
 use lib.Dec.{eqb}
 use lib.ListN.{getD}
-use Rattle.names.specs.Read.{Read, got, none, refused, Reader, follow, nothing, pure, one}
+use Rattle.names.specs.Read.{Read, got, none, refused, follow, nothing, pure, one}
 use Rattle.names.specs.Texts.{byte}
-use Rattle.records.specs.Items.{judged, meant}
-use Rattle.times.specs.Times.{clock, sunOf, moved, rawTime}
-use Rattle.times.specs.Spans.{spanBehind, spanShape, timeItem}
-use Rattle.times.specs.Meanings.{spanMeaning}
+use Rattle.names.proofs.Laws.{or-none}
+use Rattle.times.specs.Times.{clock, sunOf, moved}
 use Rattle.times.specs.declared.Clock.{Clock}
-use Rattle.times.specs.declared.RawTime.{RawTime}
 use Rattle.times.specs.declared.RawTime.the-variants.{Sun}
 
 -- where one sign stands, another does not
@@ -25,12 +22,6 @@ sign-alone b d s i n p = go (eqb b (getD s i 0)) refl
     go : (t : Bool) → eqb b (getD s i 0) ≡ t → byte d s i ≡ none
     go true e = rw (ne-eqb d (getD s i 0) (λ f. n (eqb-true _ _ e ∙ sym f)), and-false)
     go false e = let f : byte b s i ≡ none = rw (e, and-false) in cc
-
--- where nothing else is read, a reading stands
-or-none : {A : Type 0} (s : List ℕ) (i : ℕ) (r : Read A) (n : Reader A) → n s i ≡ none → follow s i r pure n ≡ r
-or-none s i (got a j) n h = refl
-or-none s i none n h = h
-or-none s i (refused k p) n h = refl
 
 -- a clock time that is added to an event, or taken off
 sun-is : (e : ℕ) (less : Bool) (s : List ℕ) (j : ℕ) (r : Read Clock) → follow s j r (λ c. pure (Sun e less c)) nothing ≡ sunOf e less r
@@ -47,14 +38,3 @@ moved-plus e s i {j} p = rw (p, sun-is e false s j (clock s j)) (or-none s i _ _
 pub moved-minus : (e : ℕ) (s : List ℕ) (i : ℕ) {j : ℕ} → byte 43 s i ≡ none → byte 45 s i ≡ got tt j → moved e s i ≡ sunOf e true (clock s j)
 unfolding moved
 moved-minus e s i {j} p q = rw (p, q) (sun-is e true s j (clock s j))
-
--- where nothing is read instead, a reading may begin anywhere
-begins : {A B : Type 0} (s : List ℕ) (i j : ℕ) (r : Read A) (f : A → Reader B) → follow s i r f nothing ≡ follow s j r f nothing
-begins s i j (got a k) f = refl
-begins s i j none f = refl
-begins s i j (refused k p) f = refl
-
--- an item, behind its start
-pub item-behind : (s : List ℕ) (i : ℕ) {start : RawTime} {j : ℕ} → rawTime s i ≡ got start j → timeItem s i ≡ meant i (spanBehind start) spanMeaning s j
-unfolding timeItem spanShape
-item-behind s i {start} {j} e = rw e (begins s i j (spanBehind start s j) (λ r. judged i (spanMeaning r)))

@@ -1,12 +1,13 @@
 -- `times::time_item` meets its contract.
 use borrow.Author.Needs.{needs}
-use mathlib.Core.Path.{ap}
-use denote.Ref.{now}
+use mathlib.Core.Path.{ap, _∙_}
 use Rattle.names.proofs.Facts.{Said, said}
-use Rattle.times.specs.Spans.{spanShape, timeItem}
+use Rattle.times.specs.Spans.{spanBehind, spanShape, timeItem}
 use Rattle.times.specs.Seen.{seenTime}
 use Rattle.times.specs.declared.RawTime.{RawTime}
-use Rattle.times.proofs.Laws.{item-behind}
+use Rattle.times.specs.Times.{rawTime}
+use Rattle.times.specs.Meanings.{spanMeaning}
+use Rattle.records.proofs.Anywhere.{item-behind}
 use Rattle.times.proofs.spans.time_item.Statement.{statement}
 use Rattle.times.proofs.spans.time_item.Tie as tie
 
@@ -23,4 +24,4 @@ time-item-spec =
     (λ c. search needs)  -- enum-told
     (λ c. let v = said (c .before .before .raw-time .ensures) (ap seenTime (c .enum-told .given .1)) in rw (v .is))  -- returns
     (λ c κs. search needs)  -- span-item-behind-requires
-    (λ c. let w = first (c .before .before) in let a = c .before .before .before .before .before .before .args in rw (item-behind (now (a .s)) (a .c .at) (w .is)) (c .span-item-behind .ensures)))  -- returns-2
+    (λ c. item-behind rawTime spanBehind spanMeaning (first (c .before .before) .is) ∙ c .span-item-behind .ensures))  -- returns-2

@@ -1,0 +1,41 @@
+-- What a good date item says of its parts.
+use Prim.Native.Nat.{ℕ, _≤_}
+use mathlib.Core.Bool.{Bool, true, _&&_, and-eq-true-iff}
+use mathlib.Core.Path.{_≡_, sym, ap, _∙_}
+use native.Mathlib.Omega.{arith}
+use Rattle.names.specs.Tests.{within}
+use Rattle.names.proofs.Laws.{within-range}
+use Rattle.days.specs.Offsets.{goodDays}
+use Rattle.days.specs.declared.RawOffset.{RawOffset}
+use Rattle.dates.specs.Meanings.{goodYears, goodDay, goodDate, goodEnd, goodDates, yearOf}
+use Rattle.dates.specs.declared.Year.{Year}
+use Rattle.dates.specs.declared.Year.the-variants.{Absent, Given}
+use Rattle.dates.specs.declared.RawDate.{RawDate}
+use Rattle.dates.specs.declared.RawEnd.{RawEnd}
+use Rattle.dates.specs.declared.RawEnd.the-variants.{Until, Bare}
+use Rattle.dates.specs.declared.RawDates.{RawDates}
+
+-- a good year is at most 9999, and so is the 0 of none
+pub year-small : (y : Year) → goodYears y ≡ true → yearOf y ≤ 9999
+year-small Absent h = omega arith
+year-small (Given n) h = within-range 1900 9999 n h .1
+
+-- the start's year is small, its offset is good and so is the end
+pub record Good (r : RawDates) : Type 0 where
+  pub year : yearOf (r .date .year) ≤ 9999
+  pub before : goodDays (r .offset .days) ≡ true
+  pub end : goodEnd (r .end) ≡ true
+
+pub dates-good : (r : RawDates) → goodDates r ≡ true → Good r
+dates-good r h =
+    let p = and-eq-true-iff (goodDate (r .date) && goodDays (r .offset .days)) (goodEnd (r .end)) .0 h in
+    let q = and-eq-true-iff (goodDate (r .date)) (goodDays (r .offset .days)) .0 (p .0) in
+    let d = and-eq-true-iff (goodYears (r .date .year)) (goodDay (r .date .day)) .0 (q .0) in
+    record { year = year-small (r .date .year) (d .0); before = q .1; end = p .1 }
+
+-- the offset of an end that is there is good
+pub until-good : {e : RawEnd} {d : RawDate} {o : RawOffset} → goodEnd e ≡ true → e ≡ Until d o → goodDays (o .days) ≡ true
+until-good {d = d} {o} h q = and-eq-true-iff (goodDate d) (goodDays (o .days)) .0 (sym (ap goodEnd q) ∙ h) .1
+
+pub bare-good : {e : RawEnd} {n : ℕ} {o : RawOffset} → goodEnd e ≡ true → e ≡ Bare n o → goodDays (o .days) ≡ true
+bare-good {n = n} {o} h q = and-eq-true-iff (within 1 31 n) (goodDays (o .days)) .0 (sym (ap goodEnd q) ∙ h) .1

@@ -1,0 +1,7 @@
+pub mod Laws
+pub mod Good
+pub mod Meant
+pub mod Cut
+pub mod BareDay
+pub mod Apart
+pub mod Examples

@@ -1,0 +1,120 @@
+// Years, weeks and month days.
+mod bare;
+mod ends;
+mod fields;
+mod meanings;
+mod monthdays;
+mod ranges;
+mod weeks;
+mod years;
+
+use days::RawOffset;
+pub use monthdays::month_day_item;
+pub use monthdays::month_day_item_behind;
+use names::Cursor;
+use records::Day;
+use records::Signed;
+pub use weeks::week_item;
+pub use years::year_item;
+pub use years::year_item_behind;
+
+// A year that may be left out.
+pub enum Year {
+    Absent,
+    Given(u16),
+}
+
+// Years or weeks as they are read.
+pub struct RawRange {
+    pub first: u16,
+    pub last: u16,
+    pub step: u32,
+}
+
+// Months as they are read.
+pub struct RawMonths {
+    pub year: Year,
+    pub first: u8,
+    pub last: u8,
+}
+
+// A date as it is read.
+pub struct RawDate {
+    pub year: Year,
+    pub day: Day,
+}
+
+// How a date item ends, as it is read: nothing behind its start, a plus, a date, or a day alone.
+pub enum RawEnd {
+    Nothing,
+    Plus,
+    Until(RawDate, RawOffset),
+    Bare(u8, RawOffset),
+}
+
+// A date item as it is read.
+pub struct RawDates {
+    pub date: RawDate,
+    pub offset: RawOffset,
+    pub end: RawEnd,
+}
+
+// What reading years or weeks finds.
+pub enum RangeRead {
+    Got(RawRange, Cursor),
+    Missing,
+}
+
+// Years as they are read, and the place after them.
+pub struct RangeThen {
+    pub range: RawRange,
+    pub next: Cursor,
+}
+
+// A step, 1 where none is read, and the place after it.
+pub struct StepThen {
+    pub step: u32,
+    pub next: Cursor,
+}
+
+// A year that may be left out, and the place after it.
+pub struct YearThen {
+    pub year: Year,
+    pub next: Cursor,
+}
+
+// What reading `n` or `-n` finds.
+pub enum NthRead {
+    Got(Signed, Cursor),
+    Missing,
+}
+
+// What reading a date without its year finds.
+pub enum DayRead {
+    Got(Day, Cursor),
+    Missing,
+}
+
+// What reading a date finds.
+pub enum DateRead {
+    Got(RawDate, Cursor),
+    Missing,
+}
+
+// What reading an end finds behind a minus.
+pub enum EndRead {
+    Got(RawEnd, Cursor),
+    Missing,
+}
+
+// How a date item ends, and the place after it.
+pub struct EndThen {
+    pub end: RawEnd,
+    pub next: Cursor,
+}
+
+// A date item as it is read, and the place after it.
+pub struct DatesThen {
+    pub dates: RawDates,
+    pub next: Cursor,
+}

@@ -1,0 +1,227 @@
+// What dates and months mean.
+ghost use Prim.Native.Nat.{_≤_};
+ghost use mathlib.Core.Bool.{true};
+ghost use mathlib.Core.Path.{_≡_};
+ghost use Rattle.days.specs.Offsets.{goodDays};
+ghost use Rattle.dates.specs.Meanings as meanings;
+use crate::RawDate;
+use crate::RawDates;
+use crate::RawEnd;
+use crate::RawMonths;
+use crate::Year;
+use crate::bare::bare_end;
+use crate::bare::last_day;
+use days::RawOffset;
+use names::within;
+use records::Date;
+use records::DateOffset;
+use records::DateSpan;
+use records::Day;
+use records::Item;
+use records::Meant;
+use records::MonthSpan;
+use records::Signed;
+
+// A year that is there is in range.
+fn good_years(y: Year) -> bool
+    ensures { λ r. ⌜ r ≡ meanings.goodYears y ⌝ }
+{
+    match y {
+        Year::Absent => true,
+        Year::Given(n) => within(1900, 9999, n as u32),
+    }
+}
+
+// D from 1 to 31, n from 1 to 5.
+fn good_day(d: Day) -> bool
+    ensures { λ r. ⌜ r ≡ meanings.goodDay d ⌝ }
+{
+    match d {
+        Day::Fixed(_, n) => within(1, 31, n as u32),
+        Day::Weekday(_, _, n) => within(1, 5, n.n as u32),
+        Day::Easter => true,
+    }
+}
+
+// A date in range.
+fn good_date(d: RawDate) -> bool
+    ensures { λ r. ⌜ r ≡ meanings.goodDate d ⌝ }
+{
+    let year = d.year;
+    let day = d.day;
+    if good_years(year) {
+        good_day(day)
+    } else {
+        false
+    }
+}
+
+// N from 0 to 32,767, either way.
+fn good_offset(o: RawOffset) -> bool
+    ensures { λ r. ⌜ r ≡ goodDays (o .days) ⌝ }
+{
+    let d = o.days;
+    d.n <= 32767
+}
+
+// An end in range.
+fn good_end(e: RawEnd) -> bool
+    ensures { λ r. ⌜ r ≡ meanings.goodEnd e ⌝ }
+{
+    match e {
+        RawEnd::Nothing => true,
+        RawEnd::Plus => true,
+        RawEnd::Until(d, o) => { if good_date(d) { good_offset(o) } else { false } }
+        RawEnd::Bare(n, o) => {
+            if within(1, 31, n as u32) {
+                good_offset(o)
+            } else {
+                false
+            }
+        }
+    }
+}
+
+// A date item in range.
+fn good_dates(r: RawDates) -> bool
+    ensures { λ x. ⌜ x ≡ meanings.goodDates r ⌝ }
+{
+    let d = r.date;
+    let o = r.offset;
+    let e = r.end;
+    if good_date(d) {
+        if good_offset(o) { good_end(e) } else { false }
+    } else {
+        false
+    }
+}
+
+// The year, or 0.
+fn year_of(y: Year) -> u16
+    ensures { λ r. ⌜ r ≡ meanings.yearOf y ⌝ }
+{
+    match y {
+        Year::Absent => 0,
+        Year::Given(n) => n,
+    }
+}
+
+// A date as it was read.
+fn dated(d: RawDate) -> Date
+    ensures { λ r. ⌜ r ≡ meanings.dated d ⌝ }
+{
+    let y = d.year;
+    let day = d.day;
+    let year = year_of(y);
+    Date { year, day }
+}
+
+// An offset in range.
+fn offset_of(o: RawOffset) -> DateOffset
+    requires { ⌜ goodDays (o .days) ≡ true ⌝ }
+    ensures { λ r. ⌜ r ≡ meanings.offsetOf o ⌝ }
+{
+    let wday = o.wday;
+    let d = o.days;
+    let days = Signed {
+        less: d.less,
+        n: d.n as u16,
+    };
+    DateOffset { wday, days }
+}
+
+// Dates from one to another.
+fn dates_of(start: Date, before: DateOffset, end: Date, behind: DateOffset) -> Meant
+    ensures { λ r. ⌜ r ≡ meanings.dates start before end behind ⌝ }
+{
+    Meant::Is(Item::Dates(DateSpan {
+        start,
+        before,
+        end,
+        behind,
+    }))
+}
+
+// A bare day after a start of each form: after a weekday date its month and year, after easter refused.
+fn bare(start: Date, before: DateOffset, e: u8, behind: DateOffset) -> Meant
+    requires { ⌜ start .year ≤ 9999 ⌝ }
+    ensures { λ r. ⌜ r ≡ meanings.bare start before e behind (start .day) ⌝ }
+{
+    let year = start.year;
+    let day = start.day;
+    match day {
+        Day::Fixed(m, d) => {
+            let end = bare_end(year, m, d, e);
+            dates_of(start, before, end, behind)
+        }
+        Day::Weekday(m, _, _) => {
+            let same = Date {
+                year,
+                day: Day::Fixed(m, e),
+            };
+            dates_of(start, before, same, behind)
+        }
+        Day::Easter => Meant::Refused(9),
+    }
+}
+
+// From a start to each kind of end: no end is the start with its offset.
+fn ended(start: Date, before: DateOffset, end: RawEnd) -> Meant
+    requires { ⌜ start .year ≤ 9999 ⌝ }
+    requires { ⌜ meanings.goodEnd end ≡ true ⌝ }
+    ensures { λ r. ⌜ r ≡ meanings.ended start before end ⌝ }
+{
+    match end {
+        RawEnd::Nothing => dates_of(start, before, start, before),
+        RawEnd::Plus => {
+            let last = last_day(start.year);
+            let none = DateOffset {
+                wday: Signed { less: false, n: 0 },
+                days: Signed { less: false, n: 0 },
+            };
+            dates_of(start, before, last, none)
+        }
+        RawEnd::Until(e, p) => {
+            let until = dated(e);
+            let behind = offset_of(p);
+            dates_of(start, before, until, behind)
+        }
+        RawEnd::Bare(e, p) => {
+            let after = offset_of(p);
+            bare(start, before, e, after)
+        }
+    }
+}
+
+// The meaning of a date item.
+pub fn date_meaning(r: RawDates) -> Meant
+    ensures { λ x. ⌜ x ≡ meanings.dateMeaning r ⌝ }
+{
+    if good_dates(r) {
+        let d = r.date;
+        let o = r.offset;
+        let e = r.end;
+        let start = dated(d);
+        let before = offset_of(o);
+        ended(start, before, e)
+    } else {
+        Meant::Refused(4)
+    }
+}
+
+// The meaning of months, which go round: only the year is judged.
+pub fn month_meaning(r: RawMonths) -> Meant
+    ensures { λ x. ⌜ x ≡ meanings.monthMeaning r ⌝ }
+{
+    let y = r.year;
+    if good_years(y) {
+        let year = year_of(y);
+        Meant::Is(Item::Months(MonthSpan {
+            year,
+            first: r.first,
+            last: r.last,
+        }))
+    } else {
+        Meant::Refused(4)
+    }
+}

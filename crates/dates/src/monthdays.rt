@@ -1,0 +1,112 @@
+// An item of a month-day list: a date item, or a month span: [`YYYY` blank] `Mon`[`-Mon`].
+ghost use mathlib.Core.Path.{_≡_};
+ghost use Rattle.records.specs.Seen.{seenItem};
+ghost use Rattle.names.specs.Read.{got};
+ghost use Rattle.dates.specs.MonthDays as monthdays;
+use crate::DayRead;
+use crate::RawDate;
+use crate::RawMonths;
+use crate::Year;
+use crate::ends::dates_behind;
+use crate::fields::day_behind;
+use crate::fields::optional_year;
+use crate::meanings::date_meaning;
+use crate::meanings::month_meaning;
+use names::Cursor;
+use names::MONTH;
+use names::Num;
+use names::Step;
+use names::Word;
+use records::Day;
+use records::ItemRead;
+use records::judged;
+
+// The last month of a span behind its first, and the place after it.
+struct MonthThen {
+    last: u8,
+    next: Cursor,
+}
+
+// Behind the first month: `-Mon`, or nothing.
+fn month_behind(s: &[u8], c: Cursor, first: u8) -> MonthThen
+    ensures { λ r. ⌜ monthdays.lastMonth first (now (s .entry)) (c .at) ≡ got (r .last) (r .next .at) ⌝ }
+{
+    let alone = MonthThen {
+        last: first,
+        next: c,
+    };
+    let minus = c.sign(s, 45);
+    let Step::Got(d) = minus else {
+        return alone;
+    };
+    let name = d.name(s, MONTH);
+    let Num::Got(last, e) = name else {
+        return alone;
+    };
+    MonthThen {
+        last: last as u8,
+        next: e,
+    }
+}
+
+// The month span that begins at p, behind its first name.
+fn month_item_behind(s: &[u8], p: usize, c: Cursor, year: Year, kind: u8, first: u8) -> ItemRead
+    ensures { λ r. ⌜ monthdays.monthItemBehind p year (kind, first) (now (s .entry)) (c .at) ≡ seenItem r ⌝ }
+{
+    if kind == MONTH {
+        let then = month_behind(s, c, first);
+        let next = then.next;
+        judged(
+            p,
+            month_meaning(RawMonths {
+                year,
+                first,
+                last: then.last,
+            }),
+            next,
+        )
+    } else {
+        ItemRead::Missing
+    }
+}
+
+// The date item that begins at p, behind its date.
+fn date_item_behind(s: &[u8], p: usize, c: Cursor, year: Year, day: Day) -> ItemRead
+    ensures { λ r. ⌜ monthdays.dateItemBehind p year day (now (s .entry)) (c .at) ≡ seenItem r ⌝ }
+{
+    let shape = dates_behind(s, c, RawDate { year, day });
+    let dates = shape.dates;
+    let next = shape.next;
+    judged(p, date_meaning(dates), next)
+}
+
+// The item that begins at p, behind its year and its first name: a date is longer than the month span that it begins with.
+pub fn month_day_item_behind(
+    s: &[u8],
+    p: usize,
+    c: Cursor,
+    year: Year,
+    kind: u8,
+    first: u8,
+) -> ItemRead
+    ensures { λ r. ⌜ monthdays.monthDayBehind p year (kind, first) (now (s .entry)) (c .at) ≡ seenItem r ⌝ }
+{
+    let rest = day_behind(s, c, kind, first);
+    match rest {
+        DayRead::Got(day, d) => date_item_behind(s, p, d, year, day),
+        DayRead::Missing => month_item_behind(s, p, c, year, kind, first),
+    }
+}
+
+// An item of a month-day list.
+pub fn month_day_item(s: &[u8], c: Cursor) -> ItemRead
+    ensures { λ r. ⌜ monthdays.monthDayItem (now (s .entry)) (c .at) ≡ seenItem r ⌝ }
+{
+    let y = optional_year(s, c);
+    let year = y.year;
+    let name = y.next.word(s);
+    let Word::Got(kind, value, d) = name else {
+        return ItemRead::Missing;
+    };
+    month_day_item_behind(s, c.at, d, year, kind, value)
+}

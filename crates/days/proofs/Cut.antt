@@ -1,0 +1,123 @@
+-- Each definition depends on nothing before its place and nothing from a `;` outside quotes on: the lemmas put together as the definitions are.
+use Prim.Native.Nat.{ℕ, _+_}
+use mathlib.Core.List.{List}
+use mathlib.Core.Bool.{true, false, _&&_, not}
+use mathlib.Core.Path.{refl}
+use native.Mathlib.Omega.{arith}
+use lib.Dec.{eqb}
+use lib.ListN.{length}
+use Rattle.names.specs.Names.{weekday, holiday, day}
+use Rattle.names.proofs.Local.{Stop, keep, Local, free, pure-local, then-local, or-local, maybe-local}
+use Rattle.names.proofs.Cut.{byte-local, blank-local, count-local, ordinal-local}
+use Rattle.names.proofs.Chains.{many-local}
+use Rattle.names.proofs.NameCut.{name-local}
+use Rattle.records.specs.declared.Signed.{Signed}
+use Rattle.records.specs.declared.Item.the-variants.{Holidays}
+use Rattle.records.specs.declared.Meant.the-variants.{Is, Refused}
+use Rattle.records.proofs.Cut.{Alike, Refuses, refuses-if, meant-alike, item-alike}
+use Rattle.days.specs.Offsets.{plusOrMinus, dayOffset, noDays, anyDays, wdayOffset, offset, goodDays, daysOf}
+use Rattle.days.specs.Entries.{backEntry, frontEntry, entry, nextEntry, entries, bits}
+use Rattle.days.specs.Weekdays.{untilWeekday, withEntries, weekdayBehind, weekdayShape, weekdaysOf, flagged, weekdayMeaning, weekdayItem, weekdayItemBehind}
+use Rattle.days.specs.Holidays.{holidayBehind, holidayShape, holidayMeaning, holidayItem, holidayItemBehind}
+use Rattle.days.specs.declared.RawWeekdays.{RawWeekdays}
+use Rattle.days.specs.declared.RawHoliday.{RawHoliday}
+
+module _ {u : List ℕ} where
+  pub plusOrMinus-alike : Alike u 1 plusOrMinus
+  unfolding plusOrMinus
+  plusOrMinus-alike = or-local (then-local (byte-local 43 refl refl) (λ _. pure-local false)) (then-local (byte-local 45 refl refl) (λ _. pure-local true))
+
+  pub dayOffset-alike : Alike u 1 dayOffset
+  unfolding dayOffset
+  dayOffset-alike =
+      then-local blank-local (λ _. then-local (free plusOrMinus-alike) (λ less. then-local (free count-local) (λ n.
+      then-local (free blank-local) (λ _. then-local (free (name-local day)) (λ _. pure-local _)))))
+
+  pub anyDays-alike : Alike u 0 anyDays
+  unfolding anyDays
+  anyDays-alike = maybe-local dayOffset-alike noDays
+
+  pub wdayOffset-alike : Alike u 1 wdayOffset
+  unfolding wdayOffset
+  wdayOffset-alike = then-local plusOrMinus-alike (λ less. then-local (free (name-local weekday)) (λ w. pure-local _))
+
+  pub offset-alike : Alike u 0 offset
+  unfolding offset
+  offset-alike = then-local (maybe-local wdayOffset-alike _) (λ w. then-local anyDays-alike (λ d. pure-local _))
+
+  pub backEntry-alike : Alike u 1 backEntry
+  unfolding backEntry
+  backEntry-alike = then-local (byte-local 45 refl refl) (λ _. then-local (free ordinal-local) (λ n. pure-local _))
+
+  pub frontEntry-alike : Alike u 1 frontEntry
+  unfolding frontEntry
+  frontEntry-alike = then-local ordinal-local (λ n. then-local (maybe-local (then-local (byte-local 45 refl refl) (λ _. free ordinal-local)) n) (λ last. pure-local _))
+
+  pub entry-alike : Alike u 1 entry
+  unfolding entry
+  entry-alike = or-local backEntry-alike frontEntry-alike
+
+  pub nextEntry-alike : Alike u 1 nextEntry
+  unfolding nextEntry
+  nextEntry-alike = then-local (byte-local 44 refl refl) (λ _. free entry-alike)
+
+  pub entries-alike : Alike u 1 entries
+  unfolding entries
+  entries-alike = then-local entry-alike (λ e. then-local (many-local nextEntry-alike) (λ es. pure-local _))
+
+  pub untilWeekday-alike : (first : ℕ) → Alike u 1 (untilWeekday first)
+  unfolding untilWeekday
+  untilWeekday-alike first = then-local (byte-local 45 refl refl) (λ _. then-local (free (name-local weekday)) (λ last. pure-local _))
+
+  pub withEntries-alike : (first : ℕ) → Alike u 1 (withEntries first)
+  unfolding withEntries
+  withEntries-alike first =
+      then-local (byte-local 91 refl refl) (λ _. then-local (free entries-alike) (λ m.
+      then-local (free (byte-local 93 refl refl)) (λ _. then-local anyDays-alike (λ d. pure-local _))))
+
+  pub weekdayBehind-alike : (first : ℕ) → Alike u 0 (weekdayBehind first)
+  unfolding weekdayBehind
+  weekdayBehind-alike first = or-local (free (untilWeekday-alike first)) (or-local (free (withEntries-alike first)) (pure-local _))
+
+  pub weekdayShape-alike : Alike u 1 weekdayShape
+  unfolding weekdayShape
+  weekdayShape-alike = then-local (name-local weekday) weekdayBehind-alike
+
+  pub holidayBehind-alike : (kind : ℕ) → Alike u 0 (holidayBehind kind)
+  unfolding holidayBehind
+  holidayBehind-alike kind = then-local anyDays-alike (λ d. pure-local _)
+
+  pub holidayShape-alike : Alike u 1 holidayShape
+  unfolding holidayShape
+  holidayShape-alike = then-local (name-local holiday) holidayBehind-alike
+
+-- the meanings refuse by 4 alone
+flagged-refuses : (first last : ℕ) (days : Signed) (starts ends : ℕ) → Refuses (flagged first last days starts ends)
+unfolding flagged
+flagged-refuses first last days starts ends = refuses-if (eqb starts 0 && eqb ends 0) (weekdaysOf first last days 31 31) (weekdaysOf first last days starts ends) tt tt
+
+pub weekday-refuses : (r : RawWeekdays) → Refuses (weekdayMeaning r)
+unfolding weekdayMeaning
+weekday-refuses r = refuses-if (not (r.marks .good && goodDays r.days)) (Refused 4) (flagged r.first r.last (daysOf r.days) (bits (r.marks .starts)) (bits (r.marks .ends))) (omega arith) (flagged-refuses _ _ _ _ _)
+
+pub holiday-refuses : (r : RawHoliday) → Refuses (holidayMeaning r)
+unfolding holidayMeaning
+holiday-refuses r = refuses-if (not (goodDays r.days)) (Refused 4) (Is (Holidays (record { kind = r.kind; days = daysOf r.days }))) (omega arith) tt
+
+-- the items
+module _ {u : List ℕ} where
+  pub weekdayItem-alike : Alike u 1 weekdayItem
+  unfolding weekdayItem
+  weekdayItem-alike = item-alike weekdayShape-alike weekdayMeaning weekday-refuses
+
+  pub weekdayItemBehind-alike : (p first : ℕ) → Local Stop keep u false false 0 (weekdayItemBehind (length u + p) first) (weekdayItemBehind p first)
+  unfolding weekdayItemBehind
+  weekdayItemBehind-alike p first = meant-alike (weekdayBehind-alike first) weekdayMeaning weekday-refuses p
+
+  pub holidayItem-alike : Alike u 1 holidayItem
+  unfolding holidayItem
+  holidayItem-alike = item-alike holidayShape-alike holidayMeaning holiday-refuses
+
+  pub holidayItemBehind-alike : (p kind : ℕ) → Local Stop keep u false false 0 (holidayItemBehind (length u + p) kind) (holidayItemBehind p kind)
+  unfolding holidayItemBehind
+  holidayItemBehind-alike p kind = meant-alike (holidayBehind-alike kind) holidayMeaning holiday-refuses p

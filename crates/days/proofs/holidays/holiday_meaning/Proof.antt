@@ -1,0 +1,15 @@
+-- `days::holiday_meaning` meets its contract.
+use borrow.Author.Needs.{needs}
+use borrow.Author.Tests.{le-leb, lt-leb}
+use Rattle.days.specs.Holidays.{holidayMeaning}
+use Rattle.days.proofs.holidays.holiday_meaning.Statement.{statement}
+use Rattle.days.proofs.holidays.holiday_meaning.Tie as tie
+
+pub holiday-meaning-spec : {M : Type 1} → statement M
+unfolding holidayMeaning
+holiday-meaning-spec =
+    tie.close
+    (tie.spec
+    (λ c. search needs)  -- cast-t6
+    (λ c. rw (le-leb _ 32767 (c .before .if1 .taken)))  -- returns
+    (λ c. rw (lt-leb _ 32767 (c .if1 .left))))  -- returns-2

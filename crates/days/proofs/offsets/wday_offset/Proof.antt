@@ -1,0 +1,33 @@
+-- `days::wday_offset` meets its contract.
+use borrow.Author.Needs.{needs}
+use mathlib.Core.Bool.{Bool}
+use mathlib.Core.Path.{ap}
+use native.Mathlib.Omega.{arith}
+use Rattle.names.proofs.Facts.{Was, was, Said, said}
+use Rattle.days.specs.Offsets.{wdayOffset}
+use Rattle.days.specs.Seen.{seenSign}
+use Rattle.days.proofs.offsets.wday_offset.Statement.{statement}
+use Rattle.days.proofs.offsets.wday_offset.Tie as tie
+
+-- what was found so far
+abbrev sign : tie.After-sign → Said Bool
+sign c = said (c .before .before .plus-or-minus .ensures) (ap seenSign (c .sign .given .1))
+
+abbrev name : tie.After-name2 → Said Bool × Was
+name c = (sign (c .before .before .before .before), was (c .before .before .name .ensures) (c .name2 .given .1))
+
+pub wday-offset-spec : {M : Type 1} → statement M
+unfolding wdayOffset
+wday-offset-spec =
+    tie.close
+    (tie.spec
+    (λ c κs. search needs)  -- plus-or-minus-requires
+    (λ c. search needs)  -- enum-known-sign
+    (λ c. search needs)  -- enum-told
+    (λ c. rw (said (c .before .before .plus-or-minus .ensures) (ap seenSign (c .enum-told .given .1)) .is))  -- returns
+    (λ c κs. search needs)  -- name-requires
+    (λ c. search needs)  -- enum-known-name
+    (λ c. search needs)  -- enum-told-2
+    (λ c. rw (sign (c .before .before .before .before) .is, was (c .before .before .name .ensures) (c .enum-told2 .given .1) .is))  -- returns-2
+    (λ c. omega (arith, name (c .before) .1))  -- cast-t9
+    (λ c. let w = name (c .before) in rw (w .0 .is, w .1 .is)))  -- returns-3

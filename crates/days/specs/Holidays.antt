@@ -1,0 +1,37 @@
+-- Holiday: `PH` or `SH` with optional day offset.
+use Prim.Native.Nat.{ℕ}
+use mathlib.Core.Bool.{not}
+use Rattle.names.specs.Tests.{if_then_else_}
+use Rattle.names.specs.Read.{Reader, pure, _>>=_}
+use Rattle.names.specs.Names.{name, holiday}
+use Rattle.records.specs.Items.{item, meant}
+use Rattle.records.specs.declared.Item.{Item}
+use Rattle.records.specs.declared.Item.the-variants.{Holidays}
+use Rattle.records.specs.declared.Meant.{Meant}
+use Rattle.records.specs.declared.Meant.the-variants.{Is, Refused}
+use Rattle.days.specs.Offsets.{anyDays, goodDays, daysOf}
+use Rattle.days.specs.declared.RawHoliday.{RawHoliday}
+
+-- the shape behind the name
+unfoldable pub holidayBehind : ℕ → Reader RawHoliday
+holidayBehind kind = do
+  d ← anyDays
+  pure (record { kind = kind; days = d })
+
+-- the shape
+unfoldable pub holidayShape : Reader RawHoliday
+holidayShape = do
+  kind ← name holiday
+  holidayBehind kind
+
+-- the meaning
+unfoldable pub holidayMeaning : RawHoliday → Meant
+holidayMeaning r = if not (goodDays r.days) then Refused 4 else Is (Holidays (record { kind = r.kind; days = daysOf r.days }))
+
+-- a holiday item
+unfoldable pub holidayItem : Reader Item
+holidayItem = item holidayShape holidayMeaning
+
+-- the item that begins at p, behind its name
+unfoldable pub holidayItemBehind : ℕ → ℕ → Reader Item
+holidayItemBehind p kind = meant p (holidayBehind kind) holidayMeaning

@@ -1,0 +1,5 @@
+pub mod Offsets
+pub mod Entries
+pub mod Weekdays
+pub mod Holidays
+pub mod Seen

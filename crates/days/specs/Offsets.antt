@@ -1,0 +1,59 @@
+-- Offset: `+Wd` or `-Wd`, or a day offset, or both in that order. Day offset: blank, sign, `N`, blank, `day` or `days`.
+use Prim.Native.Nat.{ℕ}
+use mathlib.Core.Bool.{Bool, true, false}
+use Rattle.names.specs.Read.{Reader, pure, _>>=_, _>>_, _or_, maybe}
+use Rattle.names.specs.Texts.{sign, blank}
+use Rattle.names.specs.Numbers.{count}
+use Rattle.names.specs.Names.{name, weekday, day}
+use Rattle.records.specs.Items.{signed, goodCount}
+use Rattle.records.specs.declared.Signed.{Signed}
+use Rattle.days.specs.declared.RawDays.{RawDays}
+use Rattle.days.specs.declared.RawOffset.{RawOffset}
+
+-- a plus or a minus: whether it is a minus
+unfoldable pub plusOrMinus : Reader Bool
+plusOrMinus = (do sign "+"; pure false) or (do sign "-"; pure true)
+
+-- days that are added, or taken off
+abbrev pub rawDays : Bool → ℕ → RawDays
+rawDays less n = record { less = less; n = n }
+
+-- no days
+abbrev pub noDays : RawDays
+noDays = rawDays false 0
+
+-- day offset: blank, sign, `N`, blank, `day` or `days`
+unfoldable pub dayOffset : Reader RawDays
+dayOffset = do
+  blank
+  less ← plusOrMinus
+  n ← count
+  blank
+  name day
+  pure (rawDays less n)
+
+-- a day offset, or none
+unfoldable pub anyDays : Reader RawDays
+anyDays = maybe dayOffset noDays
+
+-- `+Wd` or `-Wd`
+unfoldable pub wdayOffset : Reader Signed
+wdayOffset = do
+  less ← plusOrMinus
+  w ← name weekday
+  pure (signed less w)
+
+-- an offset, or none
+unfoldable pub offset : Reader RawOffset
+offset = do
+  w ← maybe wdayOffset (signed false 0)
+  d ← anyDays
+  pure (record { wday = w; days = d })
+
+-- N from 0 to 32,767, either way
+abbrev pub goodDays : RawDays → Bool
+goodDays d = goodCount d.n
+
+-- days in range
+abbrev pub daysOf : RawDays → Signed
+daysOf d = signed d.less d.n

@@ -1,0 +1,52 @@
+// Holiday: `PH` or `SH` with optional day offset.
+ghost use mathlib.Core.Path.{_≡_};
+ghost use Rattle.records.specs.Seen.{seenItem};
+ghost use Rattle.days.specs.Holidays as holidays;
+use crate::RawHoliday;
+use crate::offsets::any_days;
+use names::Cursor;
+use names::HOLIDAY;
+use names::Num;
+use records::Holiday;
+use records::Item;
+use records::ItemRead;
+use records::Meant;
+use records::Signed;
+use records::judged;
+
+// The meaning.
+fn holiday_meaning(r: RawHoliday) -> Meant
+    ensures { λ x. ⌜ x ≡ holidays.holidayMeaning r ⌝ }
+{
+    let d = r.days;
+    if d.n <= 32767 {
+        let days = Signed {
+            less: d.less,
+            n: d.n as u16,
+        };
+        Meant::Is(Item::Holidays(Holiday { kind: r.kind, days }))
+    } else {
+        Meant::Refused(4)
+    }
+}
+
+// The item that begins at p, behind its name.
+pub fn holiday_item_behind(s: &[u8], p: usize, c: Cursor, kind: u8) -> ItemRead
+    ensures { λ r. ⌜ holidays.holidayItemBehind p kind (now (s .entry)) (c .at) ≡ seenItem r ⌝ }
+{
+    let then = any_days(s, c);
+    let days = then.days;
+    let next = then.next;
+    judged(p, holiday_meaning(RawHoliday { kind, days }), next)
+}
+
+// A holiday item.
+pub fn holiday_item(s: &[u8], c: Cursor) -> ItemRead
+    ensures { λ r. ⌜ holidays.holidayItem (now (s .entry)) (c .at) ≡ seenItem r ⌝ }
+{
+    let name = c.name(s, HOLIDAY);
+    let Num::Got(kind, d) = name else {
+        return ItemRead::Missing;
+    };
+    holiday_item_behind(s, c.at, d, kind as u8)
+}

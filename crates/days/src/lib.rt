@@ -1,0 +1,117 @@
+// Weekdays, holidays and the offsets that days may have.
+mod entries;
+mod holidays;
+mod offsets;
+mod weekdays;
+
+pub use holidays::holiday_item;
+pub use holidays::holiday_item_behind;
+use names::Cursor;
+pub use offsets::day_offset;
+pub use offsets::offset;
+use records::Signed;
+pub use weekdays::weekday_item;
+pub use weekdays::weekday_item_behind;
+
+// A number of days as it is read.
+pub struct RawDays {
+    pub less: bool,
+    pub n: u32,
+}
+
+// An offset as it is read: a weekday to go to, the previous where `less`, 0 none; and a number of days.
+pub struct RawOffset {
+    pub wday: Signed,
+    pub days: RawDays,
+}
+
+// Which of a month's weekdays are meant: the first to the fifth.
+pub struct Flags {
+    pub one: bool,
+    pub two: bool,
+    pub three: bool,
+    pub four: bool,
+    pub five: bool,
+}
+
+// An entry of a weekday: from the month's end or not, first and last.
+pub struct Entry {
+    pub back: bool,
+    pub first: u8,
+    pub last: u8,
+}
+
+// The flags that entries set, from the month's start and from its end, and whether all their numbers are in range.
+pub struct Marks {
+    pub starts: Flags,
+    pub ends: Flags,
+    pub good: bool,
+}
+
+// Weekdays as they are read.
+pub struct RawWeekdays {
+    pub first: u8,
+    pub last: u8,
+    pub marks: Marks,
+    pub days: RawDays,
+}
+
+// A holiday as it is read.
+pub struct RawHoliday {
+    pub kind: u8,
+    pub days: RawDays,
+}
+
+// A plus, or a minus, and the place after it; or neither.
+pub enum SignRead {
+    Got(bool, Cursor),
+    Missing,
+}
+
+// What reading a day offset finds.
+pub enum DaysRead {
+    Got(RawDays, Cursor),
+    Missing,
+}
+
+// A weekday to go to, and the place after it; or none.
+pub enum WdayRead {
+    Got(Signed, Cursor),
+    Missing,
+}
+
+// An offset, which may be none, and the place after it.
+pub struct OffsetThen {
+    pub offset: RawOffset,
+    pub next: Cursor,
+}
+
+// A day offset, which may be none, and the place after it.
+pub struct DaysThen {
+    pub days: RawDays,
+    pub next: Cursor,
+}
+
+// What reading an entry finds.
+pub enum EntryRead {
+    Got(Entry, Cursor),
+    Missing,
+}
+
+// What reading entries finds.
+pub enum MarksRead {
+    Got(Marks, Cursor),
+    Missing,
+}
+
+// What reading weekdays finds behind the first.
+pub enum WeekdaysRead {
+    Got(RawWeekdays, Cursor),
+    Missing,
+}
+
+// Weekdays as they are read, and the place after them.
+pub struct WeekdaysThen {
+    pub weekdays: RawWeekdays,
+    pub next: Cursor,
+}

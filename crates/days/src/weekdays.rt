@@ -1,0 +1,177 @@
+// Weekday: `Wd`, `Wd-Wd`, or `Wd[entries]` with optional day offset.
+ghost use mathlib.Core.Path.{_≡_};
+ghost use Rattle.records.specs.Seen.{seenItem};
+ghost use Rattle.days.specs.Weekdays as weekdays;
+ghost use Rattle.days.specs.Seen.{seenWeekdays, thenWeekdays};
+use crate::MarksRead;
+use crate::RawDays;
+use crate::RawWeekdays;
+use crate::WeekdaysRead;
+use crate::WeekdaysThen;
+use crate::entries::bits;
+use crate::entries::entries;
+use crate::entries::no_marks;
+use crate::offsets::any_days;
+use names::Cursor;
+use names::Num;
+use names::Step;
+use names::WEEKDAY;
+use records::Item;
+use records::ItemRead;
+use records::Meant;
+use records::Signed;
+use records::WeekDayRange;
+use records::judged;
+
+// Weekdays from first to last, without marks and days.
+fn plain(first: u8, last: u8) -> RawWeekdays
+    ensures { λ r. ⌜ r ≡ weekdays.plain first last ⌝ }
+{
+    let marks = no_marks();
+    RawWeekdays {
+        first,
+        last,
+        marks,
+        days: RawDays { less: false, n: 0 },
+    }
+}
+
+// Behind the first: `-Wd`.
+fn until_weekday(s: &[u8], c: Cursor, first: u8) -> WeekdaysRead
+    ensures { λ r. ⌜ weekdays.untilWeekday first (now (s .entry)) (c .at) ≡ seenWeekdays r ⌝ }
+{
+    let minus = c.sign(s, 45);
+    let Step::Got(d) = minus else {
+        return WeekdaysRead::Missing;
+    };
+    let name = d.name(s, WEEKDAY);
+    let Num::Got(last, e) = name else {
+        return WeekdaysRead::Missing;
+    };
+    WeekdaysRead::Got(plain(first, last as u8), e)
+}
+
+// Behind the first: `[entries]` with optional day offset.
+fn with_entries(s: &[u8], c: Cursor, first: u8) -> WeekdaysRead
+    ensures { λ r. ⌜ weekdays.withEntries first (now (s .entry)) (c .at) ≡ seenWeekdays r ⌝ }
+{
+    let left = c.sign(s, 91);
+    let Step::Got(d) = left else {
+        return WeekdaysRead::Missing;
+    };
+    let inner = entries(s, d);
+    let MarksRead::Got(marks, e) = inner else {
+        return WeekdaysRead::Missing;
+    };
+    let right = e.sign(s, 93);
+    let Step::Got(f) = right else {
+        return WeekdaysRead::Missing;
+    };
+    let then = any_days(s, f);
+    let days = then.days;
+    let next = then.next;
+    WeekdaysRead::Got(
+        RawWeekdays {
+            first,
+            last: first,
+            marks,
+            days,
+        },
+        next,
+    )
+}
+
+// The shape behind the first weekday.
+fn weekday_behind(s: &[u8], c: Cursor, first: u8) -> WeekdaysThen
+    ensures { λ r. ⌜ weekdays.weekdayBehind first (now (s .entry)) (c .at) ≡ thenWeekdays r ⌝ }
+{
+    let until = until_weekday(s, c, first);
+    if let WeekdaysRead::Got(range, d) = until {
+        return WeekdaysThen {
+            weekdays: range,
+            next: d,
+        };
+    }
+    let marked = with_entries(s, c, first);
+    match marked {
+        WeekdaysRead::Got(some, e) => WeekdaysThen {
+            weekdays: some,
+            next: e,
+        },
+        WeekdaysRead::Missing => {
+            let one = plain(first, first);
+            WeekdaysThen {
+                weekdays: one,
+                next: c,
+            }
+        }
+    }
+}
+
+// Weekdays with these flags; if no flag of the ten is set, all ten are.
+fn flagged(first: u8, last: u8, days: Signed, starts: u8, ends: u8) -> Meant
+    ensures { λ r. ⌜ r ≡ weekdays.flagged first last days starts ends ⌝ }
+{
+    if starts == 0 {
+        if ends == 0 {
+            return Meant::Is(Item::Weekdays(WeekDayRange {
+                first,
+                last,
+                days,
+                starts: 31,
+                ends: 31,
+            }));
+        }
+    }
+    Meant::Is(Item::Weekdays(WeekDayRange {
+        first,
+        last,
+        days,
+        starts,
+        ends,
+    }))
+}
+
+// The meaning.
+fn weekday_meaning(r: RawWeekdays) -> Meant
+    ensures { λ x. ⌜ x ≡ weekdays.weekdayMeaning r ⌝ }
+{
+    let m = r.marks;
+    let d = r.days;
+    if m.good {
+        if d.n <= 32767 {
+            let starts = m.starts;
+            let ends = m.ends;
+            let days = Signed {
+                less: d.less,
+                n: d.n as u16,
+            };
+            flagged(r.first, r.last, days, bits(starts), bits(ends))
+        } else {
+            Meant::Refused(4)
+        }
+    } else {
+        Meant::Refused(4)
+    }
+}
+
+// The item that begins at p, behind its first weekday.
+pub fn weekday_item_behind(s: &[u8], p: usize, c: Cursor, first: u8) -> ItemRead
+    ensures { λ r. ⌜ weekdays.weekdayItemBehind p first (now (s .entry)) (c .at) ≡ seenItem r ⌝ }
+{
+    let shape = weekday_behind(s, c, first);
+    let r = shape.weekdays;
+    let next = shape.next;
+    judged(p, weekday_meaning(r), next)
+}
+
+// A weekday item.
+pub fn weekday_item(s: &[u8], c: Cursor) -> ItemRead
+    ensures { λ r. ⌜ weekdays.weekdayItem (now (s .entry)) (c .at) ≡ seenItem r ⌝ }
+{
+    let name = c.name(s, WEEKDAY);
+    let Num::Got(first, d) = name else {
+        return ItemRead::Missing;
+    };
+    weekday_item_behind(s, c.at, d, first as u8)
+}

@@ -1,0 +1,26 @@
+-- `item_cases::find` meets its contract.
+use borrow.Author.Needs.{needs}
+use Prim.Native.Nat.{_-_, _≤_}
+use lib.ListN.{length}
+use Rattle.item_cases.proofs.find.Statement.{statement}
+use Rattle.item_cases.proofs.find.Tie as tie
+
+abbrev Inv-loop : tie.InvT-loop
+Inv-loop s from b i₀ i = from ≤ i
+
+abbrev μ-loop : tie.MeasureT-loop
+μ-loop s from b i₀ i = length s - i
+
+pub find-spec : {M : Type 1} → statement M
+find-spec =
+    tie.close
+    (tie.spec
+    Inv-loop
+    μ-loop
+    (λ c. search needs)  -- loop-holds
+    (λ c. search needs)  -- shared-slice-read-if1
+    (λ c. search needs)  -- returns
+    (λ c. search needs)  -- add-i
+    (λ c. search needs)  -- loop-less
+    (λ c. search needs)  -- loop-again
+    (λ c. search needs))  -- returns-2
