@@ -1,8 +1,10 @@
 -- Items and bytes one after another, a step at a time, at any place: what loops of the code go by.
-use Prim.Native.Nat.{ℕ, suc, _≤_, _<_}
+use Prim.Native.Nat.{ℕ, zero, suc, _+_, _≤_, _<_}
 use mathlib.Core.List.{List, [], _∷_}
 use mathlib.Core.Bool.{Bool, true, false}
 use mathlib.Core.Path.{_≡_, refl, sym, _∙_}
+use native.Mathlib.Omega.{arith}
+use native.Mathlib.Decide.{decLt}
 use lib.ListN.{length, getD}
 use borrow.Author.Tests.{lt-ltb, le-ltb}
 use Rattle.names.specs.Read.{Read, got, none, refused, Reader, follow, branch, nothing, pure, map, one}
@@ -12,7 +14,7 @@ use Rattle.names.proofs.Ended.{one-ended}
 use Rattle.names.proofs.Fuel.{chain-is}
 
 -- a value changed twice
-map-map : {A B C : Type 0} (f : A → B) (g : B → C) (s : List ℕ) (i j : ℕ) (r : Read A) →
+pub map-map : {A B C : Type 0} (f : A → B) (g : B → C) (s : List ℕ) (i j : ℕ) (r : Read A) →
     follow s i (follow s j r (λ a. pure (f a)) nothing) (λ b. pure (g b)) nothing ≡ follow s j r (λ a. pure (g (f a))) nothing
 map-map f g s i j (got a t) = refl
 map-map f g s i j none = refl
@@ -61,3 +63,16 @@ module _ (p : ℕ → Bool) (s : List ℕ) (i : ℕ) where
   pub skip-end : length s ≤ i → skip p s i ≡ got tt i
   unfolding one
   skip-end h = rw (skip-is, le-ltb i (length s) h)
+
+-- bytes are always skipped, if only none
+skip-within : (p : ℕ → Bool) (s : List ℕ) (n i : ℕ) → length s ≤ n + i → (j : ℕ) × (skip p s i ≡ got tt j)
+skip-within p s zero i h = (i, skip-end p s i (omega arith))
+skip-within p s (suc n) i h = go (skip-within p s n (suc i) (omega arith)) (decLt i (length s)) (p (getD s i 0)) refl
+  where
+    go : (j : ℕ) × (skip p s (suc i) ≡ got tt j) → Dec (i < length s) → (t : Bool) → p (getD s i 0) ≡ t → (j : ℕ) × (skip p s i ≡ got tt j)
+    go r (yes q) true t = (r .0, skip-more p s i q t ∙ r .1)
+    go r (yes q) false t = (i, skip-stop p s i q t)
+    go r (no q) u t = (i, skip-end p s i (omega arith))
+
+pub skip-sure : (p : ℕ → Bool) (s : List ℕ) (i : ℕ) → (j : ℕ) × (skip p s i ≡ got tt j)
+skip-sure p s i = skip-within p s (length s) i (omega arith)

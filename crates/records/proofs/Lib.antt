@@ -2,3 +2,4 @@ pub mod Laws
 pub mod Apart
 pub mod Cut
 pub mod Anywhere
+pub mod Stores

@@ -1,9 +1,11 @@
 // What an item of a rule is, and the words of its record.
 mod judge;
+mod slots;
 mod words;
 
 pub use judge::judged;
 use names::Cursor;
+pub use slots::store;
 pub use words::words_of;
 
 // A number that is added, or taken off.

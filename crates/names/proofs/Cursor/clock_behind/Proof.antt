@@ -6,8 +6,6 @@ use Rattle.names.proofs.Facts.{Went, went}
 use Rattle.names.proofs.Laws.{ahead-is}
 use Rattle.names.proofs.Cursor.clock_behind.Statement.{statement}
 use Rattle.names.proofs.Cursor.clock_behind.Tie as tie
-use Rattle.names.proofs.Cursor.clock_behind.Reads as reads
-use Rattle.names.proofs.Cursor.clock_behind.Lts as lts
 
 abbrev colon : tie.After-colon → Went
 colon c = went (c .before .before .sign .ensures) (c .colon .given .1)

@@ -8,8 +8,6 @@ use Rattle.names.proofs.Facts.{Was, was}
 use Rattle.names.proofs.Digits.{digits-start, digit-more, digit-none, digits-full, grown, below, enough-small}
 use Rattle.names.proofs.Cursor.digits.Statement.{statement}
 use Rattle.names.proofs.Cursor.digits.Tie as tie
-use Rattle.names.proofs.Cursor.digits.Reads as reads
-use Rattle.names.proofs.Cursor.digits.Lts as lts
 
 -- n digits are taken, and the rest is as it was
 abbrev Inv-loop : tie.InvT-loop

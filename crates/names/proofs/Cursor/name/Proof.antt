@@ -7,8 +7,6 @@ use Rattle.names.proofs.Facts.{Named, named}
 use Rattle.names.proofs.Search.{word-small}
 use Rattle.names.proofs.Cursor.name.Statement.{statement}
 use Rattle.names.proofs.Cursor.name.Tie as tie
-use Rattle.names.proofs.Cursor.name.Reads as reads
-use Rattle.names.proofs.Cursor.name.Lts as lts
 
 abbrev found : tie.After-found → Named
 found c = named (c .before .before .word .ensures) (c .found .given .1)

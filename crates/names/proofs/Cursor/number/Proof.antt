@@ -5,8 +5,6 @@ use Rattle.names.specs.Numbers.{number}
 use Rattle.names.proofs.Facts.{Was, was, Went, went}
 use Rattle.names.proofs.Cursor.number.Statement.{statement}
 use Rattle.names.proofs.Cursor.number.Tie as tie
-use Rattle.names.proofs.Cursor.number.Reads as reads
-use Rattle.names.proofs.Cursor.number.Lts as lts
 
 abbrev missing : tie.After-enum-told → Was
 missing c = was (c .before .before .digits .ensures) (c .enum-told .given .1)

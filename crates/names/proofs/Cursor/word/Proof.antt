@@ -11,8 +11,6 @@ use Rattle.names.proofs.Rows.{few}
 use Rattle.names.proofs.Search.{word-nearby, Left, Within, Tries, over, enter, seven, ended, same, other}
 use Rattle.names.proofs.Cursor.word.Statement.{statement}
 use Rattle.names.proofs.Cursor.word.Tie as tie
-use Rattle.names.proofs.Cursor.word.Reads as reads
-use Rattle.names.proofs.Cursor.word.Lts as lts
 
 -- name k is tried, its first j letters stand here
 abbrev Inv-loop : tie.InvT-loop

@@ -1,0 +1,16 @@
+// A record's words in a slot of a table.
+ghost use Prim.Native.Nat.{_+_, _*_, _≤_};
+ghost use mathlib.Core.Path.{_≡_};
+ghost use lib.ListN.{length};
+ghost use lib.Seq.{sets};
+
+// Sixteen words are stored in a slot of a table.
+pub fn store(table: &mut [i32], slot: usize, w: [i32; 16])
+    requires { ⌜ slot * 16 + 16 ≤ length (now table) ⌝ }
+    ensures { λ _. ⌜ now (table .exit) ≡ sets (now (table .entry)) (slot * 16) w ⌝ }
+{
+    let base = slot * 16;
+    for i in 0..16 {
+        table[base + i] = w[i];
+    }
+}

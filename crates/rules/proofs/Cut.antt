@@ -1,0 +1,335 @@
+-- Each definition depends on nothing before its place and nothing from a `;` outside quotes on: the lemmas put together as the definitions are.
+use Prim.Native.Nat.{ℕ, zero, suc, _+_, _-_, _<_}
+use mathlib.Core.List.{List}
+use mathlib.Core.List as list
+use mathlib.Core.Bool.{Bool, true, false}
+use mathlib.Core.Path.{_≡_, refl, sym, ap, _∙_}
+use native.Mathlib.Omega.{arith}
+use lib.Dec.{eqb}
+use lib.ListN.{length}
+use Rattle.names.specs.Tests.{if_then_else_}
+use Rattle.names.specs.Read.{Read, got, none, refused, Reader, follow, branch, nothing, pure, refuse, here, one}
+use Rattle.names.specs.Chain.{skip, chain}
+use Rattle.names.specs.Texts.{byte, bytes}
+use Rattle.names.specs.Names as names
+use Rattle.names.proofs.Local.{Tail as Behind, Ended, Stop, moved, keep, Local, past, past-one, narrow, loose, free, by, nothing-local, pure-local, refuse-local, here-local, branch-moved, bind-local, then-local, then-moved, map-local, or-local, maybe-local, inner-local, quote-local, ahead-local}
+use Rattle.names.proofs.Ended.{one-ended, byte-ended, atEnd-ended}
+use Rattle.names.proofs.Chains.{step-moves, chain-moves, chain-local, chain-takes, many-local}
+use Rattle.names.proofs.Cut.{byte-local, blanks-local, blank-local, comma-local}
+use Rattle.names.proofs.NameCut.{plain, allOf-local, name-local}
+use Rattle.records.specs.declared.Item.{Item}
+use Rattle.records.proofs.Cut.{Alike}
+use Rattle.times.proofs.Cut.{timeItem-alike}
+use Rattle.days.proofs.Cut.{weekdayItem-alike, holidayItem-alike}
+use Rattle.dates.proofs.Cut.{yearItem-alike, weekItem-alike, monthDayItem-alike}
+use Rattle.rules.specs.Musts.{missing, must}
+use Rattle.rules.specs.Comments.{commentOf, noComment, isInner, comment, commentApart}
+use Rattle.rules.specs.Modifiers.{tailOf, withComment, modifier, selected}
+use Rattle.rules.specs.Firsts.{apart, listed, weeks, small, weeksOrSmall, behindYears, first, colon, anyDay}
+use Rattle.rules.specs.Pieces.{more, stageBehind, piece, end}
+use Rattle.rules.specs.Rules.{openingOf, always, wideComment, opening, wins, Rule, ruleOf, behind, rule, commaBlank, bars, separator, next}
+use Rattle.rules.specs.declared.Comment.{Comment}
+use Rattle.rules.specs.declared.Opening.{Opening}
+use Rattle.rules.specs.declared.Stage.{Stage}
+use Rattle.rules.specs.declared.Stage.the-variants.{Beginning, Always, Colon, Years, MonthDays, Weeks, Weekdays, Holidays, LastHolidays, LastWeekdays, Times}
+use Rattle.rules.specs.declared.Tail.{Tail}
+use Rattle.rules.specs.declared.Head.{Head}
+use Rattle.rules.specs.declared.Next.the-variants.{Another, Finished}
+use Rattle.rules.proofs.Laws.{skip-ended}
+
+-- ---- values that hold a place
+
+-- a comment's start moves; the 0 of no comment stays
+abbrev pub startMoves : ℕ → ℕ → ℕ → ℕ
+startMoves n zero start = start
+startMoves n (suc l) start = n + start
+
+abbrev pub commentMoves : ℕ → Comment → Comment
+commentMoves n c = commentOf (startMoves n c.length c.start) c.length
+
+abbrev pub tailMoves : ℕ → Tail → Tail
+tailMoves n t = tailOf t.state (commentMoves n t.comment)
+
+abbrev pub openingMoves : ℕ → Opening → Opening
+openingMoves n o = openingOf o.stage (commentMoves n o.comment)
+
+abbrev pub headMoves : ℕ → Head → Head
+headMoves n h = record { separator = h.separator; state = h.state; comment = commentMoves n h.comment; items = h.items }
+
+abbrev pub ruleMoves : ℕ → Rule → Rule
+ruleMoves n r = (headMoves n (r .0), r .1)
+
+-- the items of a rule hold no place; its end does
+abbrev pub piecesMoves : ℕ → List Item × Tail → List Item × Tail
+piecesMoves n r = (r .0, tailMoves n (r .1))
+
+-- ---- what has to stand at a place
+
+pub missing-local : {A : Type 0} {sh : ℕ → A → A} {u : List ℕ} {k : ℕ} → Local Stop sh u false false k missing missing
+unfolding missing
+missing-local {A} {k = k} =
+    let f : ℕ → Reader A = refuse 3 in
+    loose (bind-local blanks-local (λ _. branch-moved {l = k} f f here-local (λ p. refuse-local 3 p (omega arith)) nothing-local)) (omega arith)
+
+pub must-local : {A : Type 0} {sh : ℕ → A → A} {u : List ℕ} {k : ℕ} {m′ m : Reader A} → Local Stop sh u false false k m′ m → Local Stop sh u false false k (must m′) (must m)
+must-local M = or-local M missing-local
+
+-- ---- comments
+
+-- the value of a reading, where there is one, is so
+abbrev pub Found : {A : Type 0} → (A → Type 0) → Read A → Type 0
+Found P (got a j) = P a
+Found P none = Unit {0}
+Found P (refused k p) = Unit {0}
+
+-- of one reader after another, the second's is
+pub found-then : {A B : Type 0} (P : B → Type 0) (s : List ℕ) (i : ℕ) (f : A → Reader B) (r : Read A) → ((a : A) (j : ℕ) → r ≡ got a j → Found P (f a s j)) → Found P (follow s i r f nothing)
+found-then P s i f (got a j) h = h a j refl
+found-then P s i f none h = tt
+found-then P s i f (refused k p) h = tt
+
+-- values that are found move in another way that comes to the same
+by-found : {A : Type 0} {Q : Behind} {sh sh₂ : ℕ → A → A} {u : List ℕ} {a c : Bool} {k : ℕ} {m′ m : Reader A} →
+    Local Q sh u a c k m′ m → ((s : List ℕ) (i : ℕ) → Found (λ x. sh (length u) x ≡ sh₂ (length u) x) (m s i)) → Local Q sh₂ u a c k m′ m
+by-found {A} {sh = sh} {sh₂} {u} {m = m} M h = record { ends = M .ends; same = λ s v i z w. M .same s v i z w ∙ go (m s i) (h s i) }
+  where
+    go : (x : Read A) → Found (λ x. sh (length u) x ≡ sh₂ (length u) x) x → moved sh (length u) x ≡ moved sh₂ (length u) x
+    go (got x j) e = rw e
+    go none e = refl
+    go (refused k p) e = refl
+
+-- a comment whose start moves
+abbrev shifted : ℕ → Comment → Comment
+shifted n c = commentOf (n + c.start) c.length
+
+-- the same where it has bytes
+start-moves : (n l start : ℕ) → 0 < l → n + start ≡ startMoves n l start
+start-moves n zero start h = absurd (omega arith)
+start-moves n (suc l) start h = refl
+
+-- a comment that is found has bytes
+comment-found : (n : ℕ) (s : List ℕ) (i : ℕ) → Found (λ c. shifted n c ≡ commentMoves n c) (comment s i)
+unfolding comment
+comment-found n s i =
+    found-then _ s i _ (byte 34 s i) (λ _ j _.
+    found-then _ s j _ (one isInner s j) (λ _ k e.
+    found-then _ s k _ (skip isInner s k) (λ _ l f.
+    found-then _ s l _ (byte 34 s l) (λ _ _ _. rw (start-moves n (l - j) j (omega (arith, past-one (one-ended {a = true} {c = true} isInner) e, past (skip-ended {a = true} isInner) f)))))))
+
+-- between the quotes a `;` is a byte like others
+inner-skip : {u : List ℕ} → Local Stop keep u true true 0 (skip isInner) (skip isInner)
+unfolding skip isInner
+inner-skip = map-local _ _ (λ x. refl) (many-local (inner-local isInner refl))
+
+-- two places that move stay as far apart
+same-length : (n start end : ℕ) → n + end - (n + start) ≡ end - start
+same-length n start end = omega arith
+
+comment-shifted : {u : List ℕ} → Local Stop shifted u false false 1 comment comment
+unfolding comment isInner
+comment-shifted {u} =
+    let g : ℕ → ℕ → Reader Comment = λ start end. branch (byte 34) (λ _. pure (commentOf start (end - start))) nothing in
+    let f : ℕ → Reader Comment = λ start. branch (one isInner) (λ _. branch (skip isInner) (λ _. branch here (g start) nothing) nothing) nothing in
+    then-local (quote-local false) (λ _. then-moved f f here-local (λ start.
+    then-local (free (inner-local isInner refl)) (λ _. then-local inner-skip (λ _. then-moved (g (length u + start)) (g start) here-local (λ end.
+    then-local (free (quote-local true)) (λ _. rw (same-length (length u) start end) (pure-local (commentOf start (end - start)))))))))
+
+pub comment-local : {u : List ℕ} → Local Stop commentMoves u false false 1 comment comment
+comment-local {u} = by-found comment-shifted (comment-found (length u))
+
+pub commentApart-local : {u : List ℕ} → Local Stop commentMoves u false false 2 commentApart commentApart
+unfolding commentApart
+commentApart-local = bind-local blank-local (λ _. comment-local)
+
+-- ---- modifiers
+
+pub withComment-local : {u : List ℕ} (state : ℕ) → Local Stop tailMoves u false false 0 (withComment state) (withComment state)
+unfolding withComment
+withComment-local state = map-local (tailOf state) (tailOf state) (λ c. refl) (maybe-local commentApart-local noComment)
+
+pub modifier-local : {u : List ℕ} → Local Stop tailMoves u false false 1 modifier modifier
+unfolding modifier
+modifier-local = or-local (then-local (name-local names.modifier) withComment-local) (map-local (tailOf 0) (tailOf 0) (λ c. refl) comment-local)
+
+pub selected-local : {u : List ℕ} → Local Stop tailMoves u false false 0 selected selected
+unfolding selected
+selected-local = maybe-local (bind-local blank-local (λ _. modifier-local)) (tailOf 0 noComment)
+
+-- ---- openings
+
+pub always-local : {u : List ℕ} → Local Stop openingMoves u false false 4 always always
+unfolding always plain
+always-local = then-local (allOf-local (λ b. b) (bytes "24/7") refl) (λ _. pure-local (openingOf Always noComment))
+
+pub wideComment-local : {u : List ℕ} → Local Stop openingMoves u false false 2 wideComment wideComment
+unfolding wideComment
+wideComment-local =
+    let f : Comment → Reader Opening = λ c. branch (byte 58) (λ _. pure (openingOf Colon c)) nothing in
+    branch-moved f f comment-local (λ c. then-local (byte-local 58 refl refl) (λ _. pure-local (openingOf Colon c))) nothing-local
+
+pub opening-local : {u : List ℕ} → Local Stop openingMoves u false false 0 opening opening
+unfolding opening
+opening-local = or-local (free always-local) (or-local (free wideComment-local) (pure-local (openingOf Beginning noComment)))
+
+-- ---- the first items of lists
+
+module _ {u : List ℕ} where
+  pub apart-alike : {k : ℕ} {m : Reader Item} → Alike u k m → Alike u 1 (apart m)
+  apart-alike M = then-local blank-local (λ _. free M)
+
+  pub listed-alike : {k : ℕ} {m : Reader Item} → Alike u k m → Alike u 1 (listed m)
+  listed-alike M = then-local comma-local (λ _. must-local (free M))
+
+  pub weeks-alike : Alike u 1 weeks
+  unfolding weeks
+  weeks-alike = then-local (name-local names.week) (λ _. must-local (free (apart-alike weekItem-alike)))
+
+  pub small-alike : Alike u 1 small
+  unfolding small
+  small-alike = or-local weekdayItem-alike (or-local holidayItem-alike timeItem-alike)
+
+  pub weeksOrSmall-alike : Alike u 1 weeksOrSmall
+  unfolding weeksOrSmall
+  weeksOrSmall-alike = or-local weeks-alike small-alike
+
+  pub behindYears-alike : Alike u 1 behindYears
+  unfolding behindYears
+  behindYears-alike = or-local monthDayItem-alike weeksOrSmall-alike
+
+  pub first-alike : Alike u 1 first
+  unfolding first
+  first-alike = or-local monthDayItem-alike (or-local (loose yearItem-alike (omega arith)) weeksOrSmall-alike)
+
+  pub colon-alike : Alike u 1 colon
+  unfolding colon
+  colon-alike = then-local (byte-local 58 refl refl) (λ _. must-local (free (apart-alike small-alike)))
+
+  pub anyDay-alike : Alike u 1 anyDay
+  unfolding anyDay
+  anyDay-alike = or-local weekdayItem-alike holidayItem-alike
+
+-- ---- pieces
+
+module _ {u : List ℕ} where
+  pub more-alike : (x : Stage) → Alike u 1 (more x)
+  unfolding more
+  more-alike Beginning = first-alike
+  more-alike Always = nothing-local
+  more-alike Colon = must-local (apart-alike small-alike)
+  more-alike Years = or-local (listed-alike yearItem-alike) (or-local colon-alike (apart-alike behindYears-alike))
+  more-alike MonthDays = or-local (listed-alike monthDayItem-alike) (or-local colon-alike (apart-alike weeksOrSmall-alike))
+  more-alike Weeks = or-local (listed-alike weekItem-alike) (or-local colon-alike (apart-alike small-alike))
+  more-alike Weekdays = or-local (listed-alike anyDay-alike) (apart-alike timeItem-alike)
+  more-alike Holidays = or-local (listed-alike anyDay-alike) (apart-alike timeItem-alike)
+  more-alike LastHolidays = or-local (listed-alike holidayItem-alike) (apart-alike timeItem-alike)
+  more-alike LastWeekdays = or-local (listed-alike weekdayItem-alike) (apart-alike timeItem-alike)
+  more-alike Times = listed-alike timeItem-alike
+
+  pub piece-local : (x : Stage) → Local Stop (step-moves keep) u false false 1 (piece x) (piece x)
+  piece-local x = map-local (λ a. (a, stageBehind x a)) (λ a. (a, stageBehind x a)) (λ a. refl) (more-alike x)
+
+  pub end-local : (x : Stage) → Local Stop tailMoves u false false 0 (end x) (end x)
+  unfolding end
+  end-local Beginning = free (must-local modifier-local)
+  end-local Always = selected-local
+  end-local Colon = selected-local
+  end-local Years = selected-local
+  end-local MonthDays = selected-local
+  end-local Weeks = selected-local
+  end-local Weekdays = selected-local
+  end-local Holidays = selected-local
+  end-local LastHolidays = selected-local
+  end-local LastWeekdays = selected-local
+  end-local Times = selected-local
+
+  -- without selectors, an end takes a byte
+  pub beginning-end : Local Stop tailMoves u false false 1 (end Beginning) (end Beginning)
+  unfolding end
+  beginning-end = must-local modifier-local
+
+  -- a list of items that stay stays
+  items-stay : {k : ℕ} (x : Stage) → Local Stop (chain-moves keep tailMoves) u false false k (chain piece end x) (chain piece end x) → Local Stop piecesMoves u false false k (chain piece end x) (chain piece end x)
+  items-stay x M = by M (λ r. ap (λ (l : List Item). (l, tailMoves (length u) (r .1))) (list.map-id (r .0)))
+
+  -- the pieces of a rule
+  pub pieces-local : (x : Stage) → Local Stop piecesMoves u false false 0 (chain piece end x) (chain piece end x)
+  pieces-local x = items-stay x (chain-local keep piece-local end-local x)
+
+  -- from the beginning, they and the end take a byte
+  pub beginning-local : Local Stop piecesMoves u false false 1 (chain piece end Beginning) (chain piece end Beginning)
+  beginning-local = items-stay Beginning (chain-takes keep piece-local end-local Beginning beginning-end)
+
+-- ---- a rule
+
+-- the comment that wins, moved
+wins-moves : (n : ℕ) (c wide : Comment) → wins (commentMoves n c) (commentMoves n wide) ≡ commentMoves n (wins c wide)
+unfolding wins
+wins-moves n c wide = go (eqb c.length 0)
+  where
+    go : (t : Bool) → (if t then commentMoves n wide else commentMoves n c) ≡ commentMoves n (if t then wide else c)
+    go true = refl
+    go false = refl
+
+-- the rule of pieces that move
+rule-moves : (n separator : ℕ) (wide : Comment) (r : List Item × Tail) → ruleOf separator (commentMoves n wide) (piecesMoves n r) ≡ ruleMoves n (ruleOf separator wide r)
+rule-moves n separator wide r =
+    ap (λ (c : Comment). (record { separator = separator; state = r .1 .state; comment = c; items = length (r .0) }, r .0)) (wins-moves n (r .1 .comment) wide)
+
+-- one reader or another, and what follows: read as the first and what follows, or the second and what follows
+or-then : {A B : Type 0} (m n : Reader A) (f : A → Reader B) (s : List ℕ) (i : ℕ) → branch (branch m pure n) f nothing s i ≡ branch m f (branch n f nothing) s i
+or-then {A} m n f s i = go (m s i)
+  where
+    go : (r : Read A) → follow s i (follow s i r pure n) f nothing ≡ follow s i r f (branch n f nothing)
+    go (got a j) = refl
+    go none = refl
+    go (refused k p) = refl
+
+-- so the second may take its bytes with what follows
+or-then-moved : {A B : Type 0} {Q : Behind} {sh : ℕ → A → A} {sh₂ : ℕ → B → B} {u : List ℕ} {a b c : Bool} {k : ℕ} {m′ m : Reader A} (n′ n : Reader A) (f′ f : A → Reader B) → Local Q sh u a b k m′ m →
+    ((x : A) → Local Q sh₂ u b c 0 (f′ (sh (length u) x)) (f x)) → Local Q sh₂ u a c k (branch n′ f′ nothing) (branch n f nothing) →
+    Local Q sh₂ u a c k (branch (branch m′ pure n′) f′ nothing) (branch (branch m pure n) f nothing)
+or-then-moved {Q = Q} {sh₂ = sh₂} {u} {a} {c = c} {k} {m′} {m} n′ n f′ f M F N =
+    let G : Local Q sh₂ u a c k (branch m′ f′ (branch n′ f′ nothing)) (branch m f (branch n f nothing)) = loose (branch-moved {l = 0} f′ f M F (loose N (omega arith))) (omega arith) in
+    record {
+      ends = λ s v i z w. rw (or-then m n f s i) (G .ends s v i z w);
+      same = λ s v i z w. or-then m′ n′ f′ _ _ ∙ G .same s v i z w ∙ ap (moved sh₂ (length u)) (sym (or-then m n f s i));
+    }
+
+module _ {u : List ℕ} (separator : ℕ) where
+  -- what is behind an opening takes the bytes that its pieces and its end do
+  behind-takes : {k : ℕ} (o : Opening) → Local Stop piecesMoves u false false k (chain piece end o.stage) (chain piece end o.stage) → Local Stop ruleMoves u false false k (behind separator (openingMoves (length u) o)) (behind separator o)
+  unfolding behind
+  behind-takes o M = map-local (ruleOf separator (commentMoves (length u) o.comment)) (ruleOf separator o.comment) (rule-moves (length u) separator o.comment) M
+
+  pub behind-local : (o : Opening) → Local Stop ruleMoves u false false 0 (behind separator (openingMoves (length u) o)) (behind separator o)
+  behind-local o = behind-takes o (pieces-local o.stage)
+
+  -- a rule takes a byte: its opening does, or what is behind none
+  pub rule-local : Local Stop ruleMoves u false false 1 (rule separator) (rule separator)
+  unfolding rule opening
+  rule-local =
+      let f : Opening → Reader Rule = behind separator in
+      let o : Opening = openingOf Beginning noComment in
+      let n : Reader Opening = branch wideComment pure (pure o) in
+      or-then-moved n n f f (loose always-local (omega arith)) behind-local (or-then-moved (pure o) (pure o) f f (loose wideComment-local (omega arith)) behind-local (behind-takes o beginning-local))
+
+-- ---- separators
+
+pub commaBlank-local : {u : List ℕ} → Local Stop keep u false false 1 commaBlank commaBlank
+unfolding commaBlank
+commaBlank-local = then-local (byte-local 44 refl refl) (λ _. ahead-local (eqb 32) refl)
+
+pub bars-local : {u : List ℕ} → Local Stop keep u false false 2 bars bars
+unfolding bars
+bars-local = bind-local (byte-local 124 refl refl) (λ _. byte-local 124 refl refl)
+
+-- what parts rules begins with `;` itself, or is the text's end: nothing stands behind
+pub separator-ended : {u : List ℕ} → Local Ended keep u false false 1 separator separator
+unfolding separator
+separator-ended =
+    or-local (then-local (byte-ended 59) (λ _. pure-local (Another 0)))
+    (or-local (then-local (narrow commaBlank-local) (λ _. pure-local (Another 1))) (then-local (loose (narrow bars-local) (omega arith)) (λ _. pure-local (Another 2))))
+
+pub next-ended : {u : List ℕ} → Local Ended keep u false false 0 next next
+unfolding next
+next-ended = or-local (then-local atEnd-ended (λ _. pure-local Finished)) (free separator-ended)

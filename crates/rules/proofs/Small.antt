@@ -1,0 +1,132 @@
+-- A comment that is read stands in its text: its start and its length are at most the text's length.
+use Prim.Native.Nat.{ℕ, _-_, _≤_}
+use mathlib.Core.Bool.{Bool, true, false}
+use mathlib.Core.List.{List}
+use mathlib.Core.Path.{_≡_, refl, subst}
+use native.Mathlib.Omega.{arith}
+use lib.Dec.{eqb}
+use lib.ListN.{length}
+use Rattle.names.specs.Tests.{if_then_else_}
+use Rattle.names.specs.Read.{Read, got, none, refused, Reader, follow, branch, nothing, pure, map, one, _>>_}
+use Rattle.names.specs.Chain.{skip}
+use Rattle.names.specs.Texts.{byte, bytes, blank, blanks, allOf}
+use Rattle.names.specs.Names.{name}
+use Rattle.names.specs.Names as names
+use Rattle.names.proofs.Local.{past, past-one}
+use Rattle.names.proofs.Ended.{one-ended}
+use Rattle.rules.specs.Musts.{missing}
+use Rattle.rules.specs.Comments.{noComment, isInner, comment, commentApart}
+use Rattle.rules.specs.Modifiers.{tailOf, withComment, modifier, selected}
+use Rattle.rules.specs.Pieces.{end}
+use Rattle.rules.specs.Rules.{openingOf, always, wideComment, opening, wins}
+use Rattle.rules.specs.declared.Comment.{Comment}
+use Rattle.rules.specs.declared.Opening.{Opening}
+use Rattle.rules.specs.declared.Stage.{Stage}
+use Rattle.rules.specs.declared.Stage.the-variants.{Beginning, Always, Colon, Years, MonthDays, Weeks, Weekdays, Holidays, LastHolidays, LastWeekdays, Times}
+use Rattle.rules.specs.declared.Tail.{Tail}
+use Rattle.rules.proofs.Laws.{skip-ended}
+use Rattle.rules.proofs.Cut.{Found, found-then}
+
+-- a comment's start and its length are at most n
+abbrev pub Small : ℕ → Comment → Type 0
+Small n c = (c .start ≤ n) × (c .length ≤ n)
+
+-- and those of an end's comment, and of an opening's
+abbrev pub SmallEnd : ℕ → Tail → Type 0
+SmallEnd n t = Small n (t .comment)
+
+abbrev SmallOpening : ℕ → Opening → Type 0
+SmallOpening n o = Small n (o .comment)
+
+-- no comment
+no-small : (n : ℕ) → Small n noComment
+no-small n = (omega arith, omega arith)
+
+-- one reader or another, where the values of both are so
+found-or : {A : Type 0} (P : A → Type 0) (s : List ℕ) (i : ℕ) (r : Read A) (n : Reader A) → Found P r → Found P (n s i) → Found P (follow s i r pure n)
+found-or P s i (got a j) n h k = h
+found-or P s i none n h k = k
+found-or P s i (refused e p) n h k = tt
+
+-- a value that was found is so
+found-is : {A : Type 0} (P : A → Type 0) (r : Read A) → Found P r → {a : A} {j : ℕ} → r ≡ got a j → P a
+found-is P r h e = subst (Found P) e h
+
+module _ (s : List ℕ) where
+  -- what is read
+  comment-small : (i : ℕ) → Found (Small (length s)) (comment s i)
+  unfolding comment
+  comment-small i =
+      found-then _ s i _ (byte 34 s i) (λ _ j _.
+      found-then _ s j _ (one isInner s j) (λ _ k e.
+      found-then _ s k _ (skip isInner s k) (λ _ l f.
+      found-then _ s l _ (byte 34 s l) (λ _ _ _.
+      let p = past-one (one-ended {a = true} {c = true} isInner) e in
+      let q = past (skip-ended {a = true} isInner) f in
+      (omega (arith, p), omega (arith, p, q))))))
+
+  apart-small : (i : ℕ) → Found (Small (length s)) (commentApart s i)
+  unfolding commentApart
+  apart-small i = found-then _ s i _ (blank s i) (λ _ j _. comment-small j)
+
+  with-small : (state i : ℕ) → Found (SmallEnd (length s)) (withComment state s i)
+  unfolding withComment
+  with-small state i =
+      let h = found-or (Small (length s)) s i (commentApart s i) (pure noComment) (apart-small i) (no-small (length s)) in
+      found-then _ s i _ (follow s i (commentApart s i) pure (pure noComment)) (λ c j e. found-is (Small (length s)) _ h e)
+
+  modifier-small : (i : ℕ) → Found (SmallEnd (length s)) (modifier s i)
+  unfolding modifier
+  modifier-small i =
+      found-or (SmallEnd (length s)) s i (branch (name names.modifier) withComment nothing s i) (map (tailOf 0) comment)
+      (found-then (SmallEnd (length s)) s i withComment (name names.modifier s i) (λ state j _. with-small state j))
+      (found-then (SmallEnd (length s)) s i (λ c. pure (tailOf 0 c)) (comment s i) (λ c j e. found-is (Small (length s)) (comment s i) (comment-small i) e))
+
+  selected-small : (i : ℕ) → Found (SmallEnd (length s)) (selected s i)
+  unfolding selected
+  selected-small i =
+      found-or (SmallEnd (length s)) s i ((blank >> modifier) s i) (pure (tailOf 0 noComment)) (found-then (SmallEnd (length s)) s i (λ _. modifier) (blank s i) (λ _ j _. modifier-small j)) (no-small (length s))
+
+  -- what is missing has no value
+  missing-small : {A : Type 0} (P : A → Type 0) (i : ℕ) → Found P (missing s i)
+  unfolding missing
+  missing-small P i = found-then P s i _ (blanks s i) (λ _ j _. tt)
+
+  -- the comment of a rule's end
+  pub end-small : (x : Stage) (i : ℕ) → Found (SmallEnd (length s)) (end x s i)
+  unfolding end
+  end-small Beginning i = found-or (SmallEnd (length s)) s i (modifier s i) missing (modifier-small i) (missing-small (SmallEnd (length s)) i)
+  end-small Always i = selected-small i
+  end-small Colon i = selected-small i
+  end-small Years i = selected-small i
+  end-small MonthDays i = selected-small i
+  end-small Weeks i = selected-small i
+  end-small Weekdays i = selected-small i
+  end-small Holidays i = selected-small i
+  end-small LastHolidays i = selected-small i
+  end-small LastWeekdays i = selected-small i
+  end-small Times i = selected-small i
+
+  always-small : (i : ℕ) → Found (SmallOpening (length s)) (always s i)
+  unfolding always
+  always-small i = found-then _ s i _ (allOf (λ b. b) (bytes "24/7") s i) (λ _ _ _. no-small (length s))
+
+  wide-small : (i : ℕ) → Found (SmallOpening (length s)) (wideComment s i)
+  unfolding wideComment
+  wide-small i = found-then _ s i _ (comment s i) (λ c j e. found-then _ s j _ (byte 58 s j) (λ _ _ _. found-is (Small (length s)) _ (comment-small i) e))
+
+  -- the comment of a wide part
+  pub opening-small : (i : ℕ) {o : Opening} {j : ℕ} → opening s i ≡ got o j → Small (length s) (o .comment)
+  unfolding opening
+  opening-small i e =
+      let plain = pure (openingOf Beginning noComment) in
+      found-is (SmallOpening (length s)) _ (found-or (SmallOpening (length s)) s i (always s i) (branch wideComment pure plain) (always-small i) (found-or (SmallOpening (length s)) s i (wideComment s i) plain (wide-small i) (no-small (length s)))) e
+
+-- the comment that wins
+pub wins-small : (n : ℕ) (c wide : Comment) → Small n c → Small n wide → Small n (wins c wide)
+unfolding wins
+wins-small n c wide h k = go (eqb c.length 0)
+  where
+    go : (t : Bool) → Small n (if t then wide else c)
+    go true = k
+    go false = h

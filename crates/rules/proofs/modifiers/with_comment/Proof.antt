@@ -1,0 +1,19 @@
+-- `rules::modifiers::with_comment` meets its contract.
+use borrow.Author.Needs.{needs}
+use mathlib.Core.Path.{ap}
+use Rattle.names.proofs.Facts.{said}
+use Rattle.rules.specs.Modifiers.{withComment}
+use Rattle.rules.specs.Seen.{seenComment}
+use Rattle.rules.proofs.modifiers.with_comment.Statement.{statement}
+use Rattle.rules.proofs.modifiers.with_comment.Tie as tie
+
+pub with-comment-spec : {M : Type 1} → statement M
+unfolding withComment
+with-comment-spec =
+    tie.close
+    (tie.spec
+    (λ c κs. search needs)  -- comment-apart-requires
+    (λ c. search needs)  -- enum-known-apart
+    (λ c. search needs)  -- enum-told
+    (λ c. rw (said (c .before .before .before .comment-apart .ensures) (ap seenComment (c .before .apart .given .1)) .is))  -- returns
+    (λ c. rw (said (c .before .before .comment-apart .ensures) (ap seenComment (c .enum-told .given .1)) .is)))  -- returns-2

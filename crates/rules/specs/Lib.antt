@@ -1,0 +1,9 @@
+pub mod Musts
+pub mod Comments
+pub mod Modifiers
+pub mod Firsts
+pub mod Pieces
+pub mod Rules
+pub mod Heads
+pub mod Tables
+pub mod Seen

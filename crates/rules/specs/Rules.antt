@@ -1,0 +1,97 @@
+-- One rule, and what parts it from the next.
+use Prim.Native.Nat.{ℕ}
+use mathlib.Core.List.{List}
+use lib.Dec.{eqb}
+use lib.ListN.{length}
+use Rattle.names.specs.Tests.{if_then_else_}
+use Rattle.names.specs.Read.{Reader, branch, pure, map, _>>=_, _>>_, _or_, ahead, atEnd}
+use Rattle.names.specs.Chain.{chain}
+use Rattle.names.specs.Texts.{bytes, sign, allOf}
+use Rattle.records.specs.declared.Item.{Item}
+use Rattle.rules.specs.Comments.{noComment, comment}
+use Rattle.rules.specs.Pieces.{piece, end}
+use Rattle.rules.specs.declared.Comment.{Comment}
+use Rattle.names.specs.declared.Cursor.{Cursor}
+use Rattle.rules.specs.declared.Opening.{Opening}
+use Rattle.rules.specs.declared.OpeningThen.{OpeningThen}
+use Rattle.rules.specs.declared.Stage.{Stage}
+use Rattle.rules.specs.declared.Stage.the-variants.{Beginning, Always, Colon}
+use Rattle.rules.specs.declared.Tail.{Tail}
+use Rattle.rules.specs.declared.Head.{Head}
+use Rattle.rules.specs.declared.Next.{Next}
+use Rattle.rules.specs.declared.Next.the-variants.{Another, Finished}
+
+-- what was read at the beginning, and its comment
+abbrev pub openingOf : Stage → Comment → Opening
+openingOf stage comment = record { stage = stage; comment = comment }
+
+-- `24/7` has no items
+unfoldable pub always : Reader Opening
+always = do
+  allOf (λ b. b) (bytes "24/7")
+  pure (openingOf Always noComment)
+
+-- the comment of a wide part and `:`
+unfoldable pub wideComment : Reader Opening
+wideComment = do
+  c ← comment
+  sign ":"
+  pure (openingOf Colon c)
+
+-- how a rule begins: `24/7`, or the comment of a wide part and `:`, or neither
+unfoldable pub opening : Reader Opening
+opening = always or wideComment or pure (openingOf Beginning noComment)
+
+-- an opening without a comment, as the code answers it
+abbrev pub plainAt : Stage → Cursor → OpeningThen
+plainAt stage c = record { opening = openingOf stage noComment; next = c }
+
+-- the modifier's comment wins over the wide part's
+unfoldable pub wins : Comment → Comment → Comment
+wins c wide = if eqb c.length 0 then wide else c
+
+-- a rule's head
+abbrev pub headOf : ℕ → Tail → Comment → ℕ → Head
+headOf separator t wide items = record { separator = separator; state = t.state; comment = wins t.comment wide; items = items }
+
+-- a rule's head, and its items
+abbrev pub Rule : Type 0
+Rule = Head × List Item
+
+-- the items and the end, as a rule
+abbrev pub ruleOf : ℕ → Comment → List Item × Tail → Rule
+ruleOf separator wide r = (headOf separator (r .1) wide (length (r .0)), r .0)
+
+-- the pieces of a rule behind its opening
+unfoldable pub behind : ℕ → Opening → Reader Rule
+behind separator o = map (ruleOf separator o.comment) (chain piece end o.stage)
+
+-- a rule
+unfoldable pub rule : ℕ → Reader Rule
+rule separator = do
+  o ← opening
+  behind separator o
+
+-- a rule's head alone
+abbrev pub counted : ℕ → Reader Head
+counted separator = map (λ r. r .0) (rule separator)
+
+-- `,` followed by a blank
+unfoldable pub commaBlank : Reader (Unit {0})
+commaBlank = do
+  sign ","
+  ahead (eqb 32)
+
+-- `||`
+unfoldable pub bars : Reader (Unit {0})
+bars = do
+  sign "|"
+  sign "|"
+
+-- rules are parted by `;` (0), by `,` followed by a blank (1), or by `||` (2)
+unfoldable pub separator : Reader Next
+separator = (do sign ";"; pure (Another 0)) or (do commaBlank; pure (Another 1)) or (do bars; pure (Another 2))
+
+-- the text's end, or what parts a rule from the next
+unfoldable pub next : Reader Next
+next = (do atEnd; pure Finished) or separator

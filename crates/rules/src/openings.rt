@@ -1,0 +1,74 @@
+// How a rule begins: `24/7`, or the comment of a wide part and `:`, or neither.
+ghost use mathlib.Core.Path.{_≡_};
+ghost use Rattle.names.specs.Seen.{seenStep};
+ghost use Rattle.names.specs.Texts.{bytes, allOf};
+ghost use Rattle.rules.specs.Rules as rules;
+ghost use Rattle.rules.specs.Seen.{thenOpening};
+use crate::Comment;
+use crate::CommentRead;
+use crate::Opening;
+use crate::OpeningThen;
+use crate::Stage;
+use crate::comments::comment;
+use names::Cursor;
+use names::Step;
+
+// `24/7`
+fn always(s: &[u8], c: Cursor) -> Step
+    ensures { λ r. ⌜ allOf (λ b. b) (bytes "24/7") (now (s .entry)) (c .at) ≡ seenStep r ⌝ }
+{
+    let two = c.sign(s, 50);
+    let Step::Got(d) = two else {
+        return two;
+    };
+    let four = d.sign(s, 52);
+    let Step::Got(e) = four else {
+        return four;
+    };
+    let slash = e.sign(s, 47);
+    let Step::Got(f) = slash else {
+        return slash;
+    };
+    f.sign(s, 55)
+}
+
+// An opening without a comment.
+fn plain(stage: Stage, c: Cursor) -> OpeningThen
+    ensures { λ r. ⌜ r ≡ rules.plainAt stage c ⌝ }
+{
+    OpeningThen {
+        opening: Opening {
+            stage,
+            comment: Comment {
+                start: 0,
+                length: 0,
+            },
+        },
+        next: c,
+    }
+}
+
+// How a rule begins.
+pub fn begin(s: &[u8], c: Cursor) -> OpeningThen
+    ensures { λ r. ⌜ rules.opening (now (s .entry)) (c .at) ≡ thenOpening r ⌝ }
+{
+    let whole = always(s, c);
+    if let Step::Got(d) = whole {
+        return plain(Stage::Always, d);
+    }
+    let wide = comment(s, c);
+    let CommentRead::Got(some, e) = wide else {
+        return plain(Stage::Beginning, c);
+    };
+    let colon = e.sign(s, 58);
+    match colon {
+        Step::Got(f) => OpeningThen {
+            opening: Opening {
+                stage: Stage::Colon,
+                comment: some,
+            },
+            next: f,
+        },
+        Step::Missing => plain(Stage::Beginning, c),
+    }
+}
