@@ -1,0 +1,22 @@
+-- Parts: a quote flips inside and outside, a part ends at a `;` outside.
+use Prim.Native.Nat.{ℕ, zero, suc, _+_}
+use mathlib.Core.List.{List, [], _∷_}
+use mathlib.Core.Bool.{Bool, true, false, _&&_, not}
+use lib.Dec.{eqb}
+use lib.ListN.{getD, take, drop}
+use Rattle.names.specs.Tests.{if_then_else_}
+use Rattle.names.specs.Quotes.{flips, insideOf}
+
+-- the length of the part at the start of a text
+unfoldable pub partIn : Bool → List ℕ → ℕ
+partIn inside [] = 0
+partIn inside (b ∷ s) = if eqb b 59 && not inside then 0 else suc (partIn (flips b inside) s)
+
+-- whether a place is a part's beginning: the sheet's, or behind a `;` outside
+unfoldable pub begins : List ℕ → ℕ → Bool
+begins s zero = true
+begins s (suc i) = eqb (getD s i 0) 59 && not (insideOf (take i s))
+
+-- where the part that begins at p ends
+unfoldable pub partEnd : List ℕ → ℕ → ℕ
+partEnd s p = p + partIn false (drop p s)
