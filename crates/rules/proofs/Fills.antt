@@ -54,25 +54,25 @@ overlay-head h rs t k = overlay-sets rs (headWords h) t (suc k) (k * 16) (omega 
 
 module _ {A : Type 0} (P : A → Type 0) where
   -- what follows from it whatever it is
-  holds-so : {Q : Type 0} (r : Read A) → Holds P r → ((a : A) → P a → Q) → Q
+  pub holds-so : {Q : Type 0} (r : Read A) → Holds P r → ((a : A) → P a → Q) → Q
   holds-so (got a j) h f = f a h
   holds-so none h f = absurd h
   holds-so (refused k p) h f = absurd h
 
   -- the same of a value changed
-  holds-map : {B : Type 0} (s : List ℕ) (i : ℕ) (f : B → A) (r : Read B) → Holds P (follow s i r (λ b. pure (f b)) nothing) → Holds (λ b. P (f b)) r
+  pub holds-map : {B : Type 0} (s : List ℕ) (i : ℕ) (f : B → A) (r : Read B) → Holds P (follow s i r (λ b. pure (f b)) nothing) → Holds (λ b. P (f b)) r
   holds-map s i f (got b j) h = h
   holds-map s i f none h = h
   holds-map s i f (refused k p) h = h
 
   -- less is said of it
-  holds-less : (Q : A → Type 0) (r : Read A) → ((a : A) → P a → Q a) → Holds P r → Holds Q r
+  pub holds-less : (Q : A → Type 0) (r : Read A) → ((a : A) → P a → Q a) → Holds P r → Holds Q r
   holds-less Q (got a j) f h = f a h
   holds-less Q none f h = h
   holds-less Q (refused k p) f h = h
 
   -- it is no refusal
-  unrefused : {B : Type 0} (s : List ℕ) (i : ℕ) (f : A → B) (r : Read A) {k p : ℕ} → Holds P r → follow s i r (λ a. pure (f a)) nothing ≡ refused k p → ⊥
+  pub unrefused : {B : Type 0} (s : List ℕ) (i : ℕ) (f : A → B) (r : Read A) {k p : ℕ} → Holds P r → follow s i r (λ a. pure (f a)) nothing ≡ refused k p → ⊥
   unrefused s i f (got a j) h e = subst (Holds (λ _. Unit {0})) e tt
   unrefused s i f none h e = h
   unrefused s i f (refused k p) h e = h

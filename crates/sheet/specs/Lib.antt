@@ -1,2 +1,8 @@
-pub mod Parts
+pub mod Texts
 pub mod Warnings
+pub mod Sheets
+pub mod Parts
+pub mod PartReadings
+pub mod Moved
+pub mod Notes
+pub mod Seen

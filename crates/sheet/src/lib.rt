@@ -1,7 +1,43 @@
-// A whole sheet: where its parts begin and end, and its warnings.
+// A whole sheet, and its parts.
+mod notes;
+mod part_readings;
 mod parts;
+mod sheets;
+mod texts;
 mod warnings;
 
-pub use parts::begins;
-pub use parts::part_end;
-pub use warnings::warnings_of;
+use names::Cursor;
+pub use notes::note;
+pub use part_readings::read_part;
+use rules::Next;
+pub use sheets::read_sheet;
+
+// What reading a sheet answers.
+pub struct Answer {
+    pub number: u8,
+    pub place: usize,
+    pub records: usize,
+    pub warnings: usize,
+}
+
+// What reading a part answers: also the next part's place, and whether it was the last.
+pub struct PartAnswer {
+    pub number: u8,
+    pub place: usize,
+    pub records: usize,
+    pub warnings: usize,
+    pub next: usize,
+    pub last: bool,
+}
+
+// What reading a rule and what parts it from the next finds: how many items it has, what follows and where; or a refusal with its number and place.
+pub enum Parted {
+    Got(usize, Next, Cursor),
+    Refused(u8, usize),
+}
+
+// What reading the rules of a text finds: how many records they have, or a refusal with its number and place.
+pub enum Counted {
+    Got(usize),
+    Refused(u8, usize),
+}

@@ -1,0 +1,82 @@
+-- The move law: the rules of a text that stands behind u are its rules, with their places moved.
+use Prim.Native.Nat.{ℕ, _+_, _≤_, _<_}
+use mathlib.Core.List.{List, [], _++_, append-nil}
+use mathlib.Core.Bool.{Bool, false}
+use mathlib.Core.Path.{_≡_, refl, ap, _∙_}
+use native.Mathlib.Omega.{arith}
+use lib.ListN.{length}
+use Rattle.names.specs.Read.{Read, got, none, refused, Reader, branch, nothing, pure, map}
+use Rattle.names.specs.Chain.{before, last, chain}
+use Rattle.names.specs.Texts.{blanks}
+use Rattle.names.proofs.Local.{Tail, Ended, stop-end, Ends, moved, keep, Local, takes as ends-later, narrow, loose, nothing-local, pure-local, bind-local, then-local, then-moved, or-local}
+use Rattle.names.proofs.Chains.{step-moves, chain-moves, chain-local}
+use Rattle.names.proofs.Fuel.{chain-is}
+use Rattle.names.proofs.Cut.{blanks-local}
+use Rattle.rules.specs.Musts.{must}
+use Rattle.rules.specs.Rules.{Rule, next}
+use Rattle.rules.specs.declared.Next.{Next}
+use Rattle.rules.specs.declared.Next.the-variants.{Another, Finished}
+use Rattle.rules.proofs.Cut.{ruleMoves, missing-local, rule-local, next-ended}
+use Rattle.sheet.specs.Texts.{movedTo, placed, parted, moreRules, noMore, rules}
+
+-- what parts a rule from the next has to stand there
+must-next : {u : List ℕ} → Local Ended keep u false false 0 (must next) (must next)
+must-next = or-local next-ended (narrow missing-local)
+
+-- a rule and what parts it from the next
+parted-ended : {u : List ℕ} (separator : ℕ) → Local Ended (step-moves ruleMoves) u false false 1 (parted separator) (parted separator)
+unfolding parted
+parted-ended separator =
+    let f : Rule → Reader (Rule × Next) = λ r. branch blanks (λ _. branch (must next) (λ n. pure (r, n)) nothing) nothing in
+    then-moved f f (narrow (rule-local separator)) (λ r. then-local (narrow blanks-local) (λ _. then-local must-next (λ n. pure-local (r, n))))
+
+-- refusals at the place where a reader begins
+placed-local : {A : Type 0} {Q : Tail} {sh : ℕ → A → A} {u : List ℕ} {a c : Bool} {k : ℕ} {m′ m : Reader A} → Local Q sh u a c k m′ m → Local Q sh u a c k (placed m′) (placed m)
+placed-local {A} {sh = sh} {u} {m = m} M =
+    record {
+      ends = λ s v i z w. stay _ i (m s i) (M .ends s v i z w);
+      same = λ s v i z w. ap (movedTo (length u + i)) (M .same s v i z w) ∙ both (length u) i (m s i);
+    }
+  where
+    stay : (P : ℕ → Type 0) (i : ℕ) (x : Read A) → Ends P x → Ends P (movedTo i x)
+    stay P i (got a j) p = p
+    stay P i none p = tt
+    stay P i (refused k q) p = p
+
+    both : (n i : ℕ) (x : Read A) → movedTo (n + i) (moved sh n x) ≡ moved sh n (movedTo i x)
+    both n i (got a j) = refl
+    both n i none = refl
+    both n i (refused k q) = refl
+
+-- a rule of a text
+pub moreRules-ended : {u : List ℕ} (x : Next) → Local Ended (step-moves ruleMoves) u false false 1 (moreRules x) (moreRules x)
+unfolding moreRules
+moreRules-ended (Another separator) = loose (bind-local (narrow blanks-local) (λ _. placed-local (parted-ended separator))) (omega arith)
+moreRules-ended Finished = nothing-local
+
+-- the end of a text's rules
+noMore-ended : {u : List ℕ} (x : Next) → Local Ended keep u false false 0 (noMore x) (noMore x)
+unfolding noMore
+noMore-ended (Another separator) = nothing-local
+noMore-ended Finished = pure-local tt
+
+-- how the rules of a text move
+abbrev pub rulesMove : ℕ → List Rule × Unit {0} → List Rule × Unit {0}
+rulesMove = chain-moves ruleMoves keep
+
+-- the rules of a text
+pub rules-ended : (u : List ℕ) → Local Ended rulesMove u false false 0 rules rules
+unfolding rules
+rules-ended u = chain-local ruleMoves {u = u} moreRules-ended noMore-ended (Another 0)
+
+-- the move law
+pub rules-move : (u s : List ℕ) (i : ℕ) → rules (u ++ s) (length u + i) ≡ moved rulesMove (length u) (rules s i)
+rules-move u s i = rw append-nil at (rules-ended u .same s [] i stop-end tt)
+
+-- each rule takes a byte of the text
+pub takes : (x : Next) (s : List ℕ) (i : ℕ) → Ends (λ j. (i < j) × (j ≤ length s)) (moreRules x s i)
+takes x = ends-later (moreRules-ended {u = []} x)
+
+-- the rules of a text are a rule and those from there, or the end
+pub rules-are : (x : Next) (s : List ℕ) (i : ℕ) → chain moreRules noMore x s i ≡ branch (moreRules x) (λ c. map (before (c .0)) (chain moreRules noMore (c .1))) (map last (noMore x)) s i
+rules-are = chain-is moreRules noMore takes

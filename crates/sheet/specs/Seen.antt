@@ -1,0 +1,35 @@
+-- What an answer of the code says, in the definitions' terms.
+use Prim.Native.Nat.{ℕ, _+_, _*_, _≤_}
+use mathlib.Core.List.{List}
+use lib.IntN.{ℤ}
+use lib.ListN.{length}
+use Rattle.names.specs.Read.{Read, got, none, refused}
+use Rattle.rules.specs.Rules.{Rule}
+use Rattle.rules.specs.Tables.{overlay, Holds}
+use Rattle.rules.specs.declared.Next.{Next}
+use Rattle.sheet.specs.Texts.{records}
+use Rattle.sheet.specs.declared.Parted.{Parted}
+use Rattle.sheet.specs.declared.Parted.the-variants as parted
+use Rattle.sheet.specs.declared.Counted.{Counted}
+use Rattle.sheet.specs.declared.Counted.the-variants.{Got, Refused}
+
+-- how many items a rule has, and what parts it from the next
+abbrev pub seenParted : Parted → Read (ℕ × Next)
+seenParted (parted.Got items next c) = got (items, next) (c .at)
+seenParted (parted.Refused k p) = refused k p
+
+-- the rules of a text, of which n records were counted before: how many records there are, or the refusal. A text has rules, if only refused ones: p stands for nothing
+abbrev pub countFrom : ℕ → ℕ → Read (List Rule × Unit {0}) → Counted
+countFrom n p (got l j) = Got (n + length (records (l .0)))
+countFrom n p none = Refused 3 p
+countFrom n p (refused k q) = Refused k q
+
+-- the rules of a text are accepted, and their records have room in a table of the length l from slot k on
+abbrev pub RoomFrom : ℕ → ℕ → Read (List Rule × Unit {0}) → Type 0
+RoomFrom l k = Holds (λ r. (k + length (records (r .0))) * 16 ≤ l)
+
+-- a table with the records of rules written over it from slot k on
+abbrev pub fillFrom : List ℤ → ℕ → Read (List Rule × Unit {0}) → List ℤ
+fillFrom t k (got l j) = overlay t k (records (l .0))
+fillFrom t k none = t
+fillFrom t k (refused e q) = t

@@ -1,0 +1,57 @@
+-- Reading a text, and a sheet.
+use Prim.Native.Nat.{ℕ, _/_}
+use mathlib.Core.List.{List, []}
+use lib.Dec.{ltb}
+use lib.IntN.{ℤ}
+use lib.ListN.{length, drop}
+use Rattle.names.specs.Tests.{if_then_else_}
+use Rattle.names.specs.Read.{Read, got, none, refused}
+use Rattle.rules.specs.Rules.{Rule}
+use Rattle.rules.specs.Tables.{overlay}
+use Rattle.sheet.specs.Texts.{rules, records}
+use Rattle.sheet.specs.Warnings.{warningsOf}
+use Rattle.sheet.specs.declared.Answer.{Answer}
+
+-- number, place, records, warnings
+abbrev pub answerOf : ℕ → ℕ → ℕ → ℕ → Answer
+answerOf number place records warnings = record { number = number; place = place; records = records; warnings = warnings }
+
+-- a refusal gives 0 records and 0 warnings, and writes nothing
+abbrev pub refusal : ℕ → ℕ → Answer × List (List ℤ)
+refusal number place = (answerOf number place 0 0, [])
+
+-- these records, if the groups of 16 words in a table of n words are enough; else 10 at the text's first byte p
+abbrev pub stored : List ℕ → ℕ → ℕ → List (List ℤ) → Answer × List (List ℤ)
+stored s p n rs =
+    if ltb (n / 16) (length rs) then refusal 10 p
+    else (answerOf 0 0 (length rs) (warningsOf (drop p s)), rs)
+
+-- what the rules of a text come to
+abbrev pub judgedText : List ℕ → ℕ → ℕ → Read (List Rule × Unit {0}) → Answer × List (List ℤ)
+judgedText s p n (got l j) = stored s p n (records (l .0))
+judgedText s p n none = refusal 3 p
+judgedText s p n (refused k q) = refusal k q
+
+-- the answer and the records of the text from place p on to the end of s, for a table of n words
+unfoldable pub textOf : List ℕ → ℕ → ℕ → Answer × List (List ℤ)
+textOf s p n = judgedText s p n (rules s p)
+
+-- the answer and the records of a sheet: one of over 4,096 bytes is not read
+unfoldable pub sheetOf : List ℕ → ℕ → Answer × List (List ℤ)
+sheetOf s n = if ltb 4096 (length s) then refusal 1 0 else textOf s 0 n
+
+-- a table after records are written: only their words change
+abbrev pub tableAfter : List ℤ → List (List ℤ) → List ℤ
+tableAfter t rs = overlay t 0 rs
+
+-- what reading answers, and the table afterwards
+abbrev pub written : {A : Type 0} → List ℤ → A × List (List ℤ) → A × List ℤ
+written t r = (r .0, tableAfter t (r .1))
+
+-- the same of a text, from place p on
+unfoldable pub textReading : List ℕ → ℕ → List ℤ → Answer × List ℤ
+textReading s p t = written t (textOf s p (length t))
+
+-- and of a sheet
+unfoldable pub sheetReading : List ℕ → List ℤ → Answer × List ℤ
+sheetReading s t = written t (sheetOf s (length t))

@@ -1,0 +1,56 @@
+-- The rules of a text, left to right, and their records.
+use Prim.Native.Nat.{ℕ}
+use mathlib.Core.List.{List, [], _∷_, _++_}
+use lib.IntN.{ℤ}
+use Rattle.names.specs.Read.{Read, got, none, refused, Reader, nothing, pure, _>>=_, _>>_}
+use Rattle.names.specs.Chain.{chain}
+use Rattle.names.specs.Texts.{blanks}
+use Rattle.rules.specs.Musts.{must}
+use Rattle.rules.specs.Rules.{Rule, rule, next}
+use Rattle.rules.specs.Tables.{ruleRecords}
+use Rattle.rules.specs.declared.Next.{Next}
+use Rattle.rules.specs.declared.Next.the-variants.{Another, Finished}
+
+-- a reading, with each refusal at the place p
+abbrev pub movedTo : {A : Type 0} → ℕ → Read A → Read A
+movedTo p (got a j) = got a j
+movedTo p none = none
+movedTo p (refused k q) = refused k p
+
+-- a reader whose refusals are at the place where it begins
+abbrev pub placed : {A : Type 0} → Reader A → Reader A
+placed m s i = movedTo i (m s i)
+
+-- the blanks after a rule, and what parts it from the next
+abbrev pub afterRule : {A : Type 0} → A → Reader (A × Next)
+afterRule r = do
+  blanks
+  n ← must next
+  pure (r, n)
+
+-- a rule, and what parts it from the next
+unfoldable pub parted : ℕ → Reader (Rule × Next)
+parted separator = do
+  r ← rule separator
+  afterRule r
+
+-- a rule of a text: "rule" is the place where the blanks before it end
+unfoldable pub moreRules : Next → Reader (Rule × Next)
+moreRules (Another separator) = do
+  blanks
+  placed (parted separator)
+moreRules Finished = nothing
+
+-- there are no more rules where the text has ended
+unfoldable pub noMore : Next → Reader (Unit {0})
+noMore (Another separator) = nothing
+noMore Finished = pure tt
+
+-- the rules of a text: the first has the separator 0
+unfoldable pub rules : Reader (List Rule × Unit {0})
+rules = chain moreRules noMore (Another 0)
+
+-- the records of rules: a rule's head comes first, then its items
+unfoldable pub records : List Rule → List (List ℤ)
+records [] = []
+records (r ∷ rs) = ruleRecords r ++ records rs

@@ -1,0 +1,57 @@
+// Reading a part.
+ghost use mathlib.Core.Path.{_≡_};
+ghost use Rattle.sheet.specs.PartReadings as parts;
+use crate::Answer;
+use crate::PartAnswer;
+use crate::parts::begins;
+use crate::parts::part_end;
+use crate::sheets::read_text;
+use crate::sheets::refusal;
+
+// An answer, the next part's place and whether this was the last.
+fn part_answer_of(a: Answer, next: usize, last: bool) -> PartAnswer
+    ensures { λ r. ⌜ r ≡ parts.partAnswerOf a next last ⌝ }
+{
+    PartAnswer {
+        number: a.number,
+        place: a.place,
+        records: a.records,
+        warnings: a.warnings,
+        next,
+        last,
+    }
+}
+
+// The answer of a part that ends at e.
+fn with_next(s: &[u8], e: usize, a: Answer) -> PartAnswer
+    ensures { λ r. ⌜ r ≡ parts.withNext (now (s .entry)) e a ⌝ }
+{
+    if e < s.len() {
+        part_answer_of(a, e + 1, false)
+    } else {
+        part_answer_of(a, 0, true)
+    }
+}
+
+// 1 and 2 give next 0, last.
+fn part_refusal(number: u8) -> PartAnswer
+    ensures { λ r. ⌜ r ≡ parts.partRefusal number .0 ⌝ }
+{
+    part_answer_of(refusal(number, 0), 0, true)
+}
+
+// The part that begins at a place is read into a table of words.
+pub fn read_part(sheet: &[u8], place: usize, table: &mut [i32]) -> PartAnswer
+    ensures { λ r. ⌜ (r, now (table .exit)) ≡ parts.partReading (now (sheet .entry)) place (now (table .entry)) ⌝ }
+{
+    if 4096 < sheet.len() {
+        return part_refusal(1);
+    }
+    if begins(sheet, place) {
+        let e = part_end(sheet, place);
+        let a = read_text(&sheet[..e], place, table);
+        with_next(sheet, e, a)
+    } else {
+        part_refusal(2)
+    }
+}
