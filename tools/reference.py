@@ -4,6 +4,8 @@
     reference.py items FILE     each line: a kind (2 years, 3 month days, 5 weeks, 6 weekdays, 7 holidays, 8 times), a blank, a text.
                                 Writes the line, a tab, and what reading an item of that kind at the text's start gives.
     reference.py sheets FILE    each line a sheet (\\xNN for one byte): writes its answer and records.
+    reference.py cases FILE     each line a case of crates/cases (its form: see `case`): writes what the program is to write.
+    reference.py readings FILE  a document whose lines show a sheet and its answer, - `sheet` → **n p r w**: writes those that are read otherwise.
 
 Shapes are regular expressions over bytes: every shape is tried and the longest that stands complete is taken. Needs Python 3.11.
 """
@@ -376,29 +378,162 @@ def warnings(s):
 
 
 def line_of(words):
-    return " ".join(str(w) for w in words)
+    return " ".join(str(int(w)) for w in words)
+
+
+def read_sheet(s, words):
+    """(number, place, records, warnings) with a table of so many words"""
+    number, place, records = sheet(s, words // 16)
+    return number, place, records, warnings(s) if number == 0 else 0
+
+
+# ---- parts
+PART = re.compile(rb'(?:[^";]|"[^"]*+"?)*+')  # up to a `;` outside quotes; a quote that is never closed goes to the end
+
+
+def parts(s):
+    """the (beginning, end) of each part"""
+    out, i = [], 0
+    while True:
+        end = PART.match(s, i).end()
+        out.append((i, end))
+        if end == len(s):
+            return out
+        i = end + 1
+
+
+def moved(record, d):
+    """the record of a text that stands d bytes later"""
+    return record[:3] + [record[3] + d] + record[4:] if record[0] == 1 and record[4] else record
+
+
+def read_part(s, place, words):
+    """(number, place, records, warnings, next, last): the part's text read alone, its places counted from the sheet's start"""
+    if len(s) > 4096:
+        return 1, 0, [], 0, 0, True
+    ends = dict(parts(s))
+    if place not in ends:
+        return 2, 0, [], 0, 0, True
+    end = ends[place]
+    number, at, records, warned = read_sheet(s[place:end], words)
+    last = end == len(s)
+    return number, at + place if number else 0, [moved(r, place) for r in records], warned, 0 if last else end + 1, last
+
+
+def chain(s, words):
+    """each part's reading, from place 0 on by `next`"""
+    place, out = 0, []
+    while True:
+        out.append((place, read_part(s, place, words)))
+        if out[-1][1][5]:
+            return out
+        place = out[-1][1][4]
+
+
+# ---- cases
+def shown(reading):
+    """an answer's line, and one for each record"""
+    return [line_of(reading[:2] + (len(reading[2]),) + reading[3:])] + [line_of(r) for r in reading[2]]
+
+
+def sheet_lines(s, words):
+    return shown(read_sheet(s, words))
+
+
+def part_lines(s, words):
+    return [line for _, r in chain(s, words) for line in shown(r)]
+
+
+def place_lines(s, words):
+    """the places, from 0 to one behind the end, where a part begins"""
+    return [" ".join(["B"] + [str(p) for p in range(len(s) + 2) if read_part(s, p, words)[0] != 2])]
+
+
+def still(s, p, r, t, q, w):
+    """whether the reading r of the part at p in s is, with its places moved, the reading w of the part at q in t"""
+    def rest(place, r):
+        return (r[0], r[1] - place if r[0] else 0, [moved(x, -place) for x in r[2]], r[3], r[4] if r[5] else r[4] - place, r[5])
+
+    def comments(s, r):
+        return [s[x[3]:x[3] + x[4]] for x in r[2] if x[0] == 1]
+    return rest(p, r) == rest(q, w) and comments(s, r) == comments(t, w)
+
+
+def exchange_lines(s, t, k, words):
+    """a sheet and the same with its part k exchanged: how many of the other parts are read as before, and how many are not"""
+    same = [still(s, p, r, t, q, w) for i, ((p, r), (q, w)) in enumerate(zip(chain(s, words), chain(t, words))) if i != k]
+    return [f"X {same.count(True)} {same.count(False)}"]
+
+
+def note(s, standing, start, length):
+    """the comment out of the sheet, the standing note, or for numbers outside the sheet nothing"""
+    if length == 0:
+        return standing
+    return s[start:start + length] if start >= 0 and length >= 0 and start + length <= len(s) else b""
+
+
+def note_lines(s):
+    numbers = [-2147483648, -1, 0, 1, 3, 5, 6, 2147483647]
+    return [b"".join(note(s, b"standing", a, n) + b"|" for n in numbers).decode("latin-1") for a in numbers]
+
+
+def case(raw):
+    """A case: four digits for the words of the table; a letter; a blank (after X, the number of the exchanged part); the sheet.
+    S the sheet. P its parts, and the places where they begin. A both. L, for a long sheet, both without the places.
+    X two sheets with byte 9 between them, of which one part differs. N the notes for some starts and lengths."""
+    words, mode, s = int(raw[:4]), raw[4:5], raw[6:]
+    if mode == b"X":
+        one, other = s.split(b"\t")
+        return exchange_lines(one, other, int(raw[5:6]), words)
+    if mode == b"N":
+        return note_lines(s)
+    out = []
+    if mode in b"SAL":
+        out += sheet_lines(s, words)
+    if mode in b"PAL":
+        out += part_lines(s, words)
+    if mode in b"PA":
+        out += place_lines(s, words)
+    return out
+
+
+def bytes_of(text):
+    return re.sub(rb"\\x([0-9a-f]{2})", lambda m: bytes([int(m.group(1), 16)]), text)
+
+
+def item_line(raw):
+    raw = raw.split(b"\t")[0]
+    try:
+        r = item(int(raw[:1]), raw[2:], 0)
+        answer = "none" if r is None else f"{line_of(r[0])} to {r[1]}"
+    except Refused as e:
+        answer = f"refused {e.args[0]}"
+    return raw + b"\t" + answer.encode()
+
+
+READING = re.compile(rb"- `(.*?)` \xe2\x86\x92 \*\*(\d+ \d+ \d+ \d+)\*\*")
+
+
+def other_readings(lines):
+    found = [m for m in map(READING.match, lines) if m]
+    other = [m for m in found if shown(read_sheet(bytes_of(m.group(1)), 8192))[0].encode() != m.group(2)]
+    return [m.group() for m in other] + [b"%d sheets, %d read otherwise" % (len(found), len(other))]
 
 
 def main():
     mode, path = sys.argv[1], sys.argv[2]
-    for raw in open(path, "rb").read().split(b"\n"):
-        if mode == "items":
-            if not raw:
-                continue
-            raw = raw.split(b"\t")[0]
-            kind, text = int(raw[:1]), raw[2:]
-            try:
-                r = item(kind, text, 0)
-                answer = "none" if r is None else f"{line_of(r[0])} to {r[1]}"
-            except Refused as e:
-                answer = f"refused {e.args[0]}"
-            sys.stdout.buffer.write(raw + b"\t" + answer.encode() + b"\n")
-        else:
-            s = re.sub(rb"\\x([0-9a-f]{2})", lambda m: bytes([int(m.group(1), 16)]), raw)
-            number, place, records = sheet(s)
-            print(number, place, len(records), warnings(s) if number == 0 else 0)
-            for r in records:
-                print(line_of(r))
+    lines = open(path, "rb").read().split(b"\n")
+    out = []
+    if mode == "items":
+        out = [item_line(raw) for raw in lines if raw]
+    elif mode == "cases":
+        for raw in lines[:-1]:
+            out += [raw] + [line.encode("latin-1") for line in case(raw)]
+    elif mode == "readings":
+        out = other_readings(lines)
+    else:
+        out = [line.encode() for raw in lines for line in sheet_lines(bytes_of(raw), 8192)]
+    sys.stdout.buffer.write(b"".join(line + b"\n" for line in out))
 
 
 if __name__ == "__main__":

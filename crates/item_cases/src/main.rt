@@ -7,6 +7,7 @@ use items::item_of;
 use libc::STDIN_FILENO;
 use libc::STDOUT_FILENO;
 use names::Cursor;
+use prints::size;
 use records::ItemRead;
 use records::words_of;
 
@@ -54,12 +55,12 @@ impl Text {
         self.put_all(&text[..k])
     }
 
-    // A word more. (Below 0, `!w` is one less than what is taken off.)
+    // A word more.
     fn put_word(self, w: i32) -> Self {
         if w < 0 {
-            return self.put(45).put_number((!w) as u64 + 1);
+            return self.put(45).put_number(size(w));
         }
-        self.put_number(w as u64)
+        self.put_number(size(w))
     }
 
     // The words of a record, a blank behind each.

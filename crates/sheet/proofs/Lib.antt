@@ -4,14 +4,4 @@ pub mod Moves
 pub mod Turns
 pub mod Readings
 pub mod Noted
-pub mod Cuts
-pub mod TextMoves
 pub mod PartLaws
-pub mod Alone
-pub mod PartMoves
-pub mod Exchange
-pub mod Places
-pub mod WarnedCut
-pub mod Together
-pub mod TogetherCalls
-pub mod TogetherWords

@@ -3,6 +3,5 @@ pub mod Warnings
 pub mod Sheets
 pub mod Parts
 pub mod PartReadings
-pub mod Moved
 pub mod Notes
 pub mod Seen

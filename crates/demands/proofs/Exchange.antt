@@ -1,0 +1,238 @@
+-- Demand 3, "Exchange one part for bytes whose quotes pair and whose semicolons stand inside quotes, both sheets within 4,096 bytes. Every other part, read
+-- with a table as long as before, has its old answer and records, later places shifted by the change in length":
+-- the part x between a and b is exchanged for y. A part that begins before x begins where it did and is answered as it was. A part that begins r bytes
+-- behind x begins r bytes behind y, and each place of its old answer and records plus the length of y is that of the new plus the length of x; the 0 of
+-- acceptance, of no comment and of a last part's next stays, as `movedPart` says. The new sheet has these parts, the part y, and no others.
+use Prim.Native.Nat.{ℕ, zero, suc, _+_, _-_, _≤_, _<_}
+use mathlib.Core.List.{List, [], _∷_, _++_, append-nil, append-assoc}
+use mathlib.Core.Bool.{true, false, true≢false}
+use mathlib.Core.Logic.{_≢_, _⊎_, inl, inr}
+use mathlib.Core.Path.{_≡_, refl, sym, ap, _∙_, subst}
+use native.Mathlib.Omega.{arith}
+use native.Mathlib.Decide.{decLt}
+use lib.IntN.{ℤ}
+use lib.ListN.{length, length-append}
+use lib.Seq.{take-append-le, take-append-seam, drop-append-seam, getD-append-seam}
+use borrow.Author.Tests.{le-ltb, lt-ltb}
+use Rattle.names.specs.Quotes.{insideOf}
+use Rattle.sheet.specs.Parts.{begins, partIn, partEnd}
+use Rattle.sheet.specs.Sheets.{tableAfter}
+use Rattle.sheet.specs.PartReadings.{withNext, partOf, partReading}
+use Rattle.demands.specs.Moved.{movedPart}
+use Rattle.sheet.specs.declared.PartAnswer.{PartAnswer}
+use Rattle.sheet.proofs.Laws.{begins-past}
+use Rattle.sheet.proofs.PartLaws.{part-cut, part-ended, part-paired, begins-later, begins-earlier, begins-from, begins-none, end-earlier}
+use Rattle.demands.proofs.PartMoves.{part-twice, part-still, part-move}
+
+-- both sheets are within 4,096 bytes, x is a part of the first, the quotes of y pair, and each `;` of y stands inside quotes
+pub record Exchanged (a x y b : List ℕ) : Type 0 where
+  pub old-fits : length (a ++ (x ++ b)) ≤ 4096
+  pub new-fits : length (a ++ (y ++ b)) ≤ 4096
+  pub part-begins : begins (a ++ (x ++ b)) (length a) ≡ true
+  pub part-ends : partEnd (a ++ (x ++ b)) (length a) ≡ length a + length x
+  pub pairs : insideOf y ≡ false
+  pub quoted : partIn false y ≡ length y
+
+-- what the exchange leaves of the part that begins at a place of the first sheet, for tables of n words: a part of the second
+pub data Left (a x y b : List ℕ) (n : ℕ) : ℕ → Type 0 where
+  before : {p : ℕ} → p < length a → begins (a ++ (y ++ b)) p ≡ true → partOf (a ++ (y ++ b)) p n ≡ partOf (a ++ (x ++ b)) p n → Left a x y b n p
+  behind : (r : ℕ) → 0 < r → begins (a ++ (y ++ b)) (length a + length y + r) ≡ true →
+      movedPart (length y) (partOf (a ++ (x ++ b)) (length a + length x + r) n) ≡ movedPart (length x) (partOf (a ++ (y ++ b)) (length a + length y + r) n) → Left a x y b n (length a + length x + r)
+
+-- what the part that begins at a place of the second sheet was: a part of the first
+pub data Was (a x y b : List ℕ) : ℕ → Type 0 where
+  before : {p : ℕ} → p < length a → begins (a ++ (x ++ b)) p ≡ true → Was a x y b p
+  behind : (r : ℕ) → 0 < r → begins (a ++ (x ++ b)) (length a + length x + r) ≡ true → Was a x y b (length a + length y + r)
+
+-- what a call gives: the answer, and the table t with the records written over it
+abbrev pub written : List ℤ → PartAnswer × List (List ℤ) → PartAnswer × List ℤ
+written t r = (r .0, tableAfter t (r .1))
+
+-- what the exchange leaves of the call for the part that begins at a place of the first sheet, where t was lent to it and t′ is lent to the second
+pub data LeftCall (a x y b : List ℕ) (t t′ : List ℤ) : ℕ → Type 0 where
+  before : {p : ℕ} → p < length a → partReading (a ++ (y ++ b)) p t′ ≡ written t′ (partOf (a ++ (x ++ b)) p (length t)) → LeftCall a x y b t t′ p
+  behind : (r : ℕ) (shifted : PartAnswer × List (List ℤ)) → 0 < r → movedPart (length y) (partOf (a ++ (x ++ b)) (length a + length x + r) (length t)) ≡ movedPart (length x) shifted →
+      partReading (a ++ (y ++ b)) (length a + length y + r) t′ ≡ written t′ shifted → LeftCall a x y b t t′ (length a + length x + r)
+
+-- the call for a part gives the part's answer, and writes its records
+pub call-is : (s : List ℕ) (p : ℕ) (t : List ℤ) → partReading s p t ≡ written t (partOf s p (length t))
+unfolding partReading
+call-is s p t = refl
+
+-- ---- what stands behind a part
+
+-- nothing, or a `;`, before which the quotes pair
+data Rest (x : List ℕ) : List ℕ → Type 0 where
+  no-rest : Rest x []
+  rest : (t : List ℕ) → insideOf x ≡ false → Rest x (59 ∷ t)
+
+-- so it is where x is a part at the start of a text
+rest-of : (x b : List ℕ) → partIn false (x ++ b) ≡ length x → Rest x b
+rest-of x [] h = no-rest
+rest-of x (c ∷ t) h =
+    let l : partIn false (x ++ c ∷ t) < length (x ++ c ∷ t) = simp length-append (omega arith) in
+    let e : c ≡ 59 = rw (h, getD-append-seam x c t 0) at (part-ended false (x ++ c ∷ t) l .0) in
+    let o : insideOf x ≡ false = rw (h, take-append-seam x (c ∷ t)) at (part-paired (x ++ c ∷ t) l) in
+    rw e (rest t o)
+
+-- ---- a part behind a `;` that stands behind z, whose quotes pair
+
+module _ (a z t : List ℕ) (b : begins (a ++ (z ++ 59 ∷ t)) (length a) ≡ true) (o : insideOf z ≡ false) where
+  -- it begins as in the text there
+  behind-begins : (q : ℕ) → begins (a ++ (z ++ 59 ∷ t)) (length a + length z + suc q) ≡ begins t q
+  behind-begins q =
+      let e : length a + length z + suc q ≡ length a + suc (length z + q) = omega arith in
+      rw (e, begins-from (a ++ (z ++ 59 ∷ t)) (length a) (suc (length z + q)) b, drop-append-seam a (z ++ 59 ∷ t)) (begins-later z t q o)
+
+  -- and is answered so
+  behind-moves : (q n : ℕ) → length (a ++ (z ++ 59 ∷ t)) ≤ 4096 → begins t q ≡ true → partOf (a ++ (z ++ 59 ∷ t)) (length a + length z + suc q) n ≡ movedPart (length a + length z + 1) (partOf t q n)
+  behind-moves q n h k =
+      let u = a ++ (z ++ (59 ∷ [])) in
+      let whole : u ++ t ≡ a ++ (z ++ 59 ∷ t) = append-assoc a (z ++ (59 ∷ [])) t ∙ ap (λ r. a ++ r) (append-assoc z (59 ∷ []) t) in
+      let size : length u ≡ length a + length z + 1 = simp length-append (omega arith) in
+      let place : length u + q ≡ length a + length z + suc q = omega arith in
+      rw (← whole, ← place, ← size) (part-move u t q n (rw whole h) (rw (whole, place) (behind-begins q ∙ k)) k)
+
+-- ---- where parts begin
+
+-- the new part begins where the old one did, and ends with its bytes
+itself : {a x y b : List ℕ} → Exchanged a x y b → Rest x b → (begins (a ++ (y ++ b)) (length a) ≡ true) × (partEnd (a ++ (y ++ b)) (length a) ≡ length a + length y)
+unfolding partEnd
+itself {a} {x} {y} {b} z l = (
+  begins-earlier a (y ++ b) (length a) (omega arith) ∙ sym (begins-earlier a (x ++ b) (length a) (omega arith)) ∙ z .part-begins,
+  ap (λ s. length a + partIn false s) (drop-append-seam a (y ++ b)) ∙ ap (λ n. length a + n) (ends l),
+)
+  where
+    ends : {b : List ℕ} → Rest x b → partIn false (y ++ b) ≡ length y
+    ends no-rest = rw (append-nil y) (z .quoted)
+    ends (rest t o) = part-cut y t (z .quoted) (z .pairs)
+
+-- a place at which another part begins stands before a part or behind its end
+apart : (s : List ℕ) (m p : ℕ) → begins s m ≡ true → begins s p ≡ true → p ≢ m → (p < m) ⊎ (partEnd s m < p)
+apart s m p c k d = go (decLt p m) (decLt (partEnd s m) p)
+  where
+    go : Dec (p < m) → Dec (partEnd s m < p) → (p < m) ⊎ (partEnd s m < p)
+    go (yes h) l = inl h
+    go (no h) (yes l) = inr l
+    go (no h) (no l) = absurd (true≢false (sym k ∙ begins-none s m p c (omega arith) (omega arith)))
+
+-- none begins behind the sheet's end
+past : (a w : List ℕ) (r : ℕ) → 0 < r → begins (a ++ (w ++ [])) (length a + length w + r) ≡ false
+past a w r h = sym (begins-past (a ++ (w ++ [])) (length a + length w + r) (simp (length-append, append-nil) (omega arith)))
+
+-- ---- a part behind the exchanged one
+
+module _ {a x y : List ℕ} where
+  -- it begins in both sheets, or in neither
+  places : {b : List ℕ} → Exchanged a x y b → Rest x b → (r : ℕ) → 0 < r → begins (a ++ (y ++ b)) (length a + length y + r) ≡ begins (a ++ (x ++ b)) (length a + length x + r)
+  places z no-rest r h = rw (past a y r h, past a x r h)
+  places z (rest t o) zero h = absurd (omega arith)
+  places z (rest t o) (suc q) h = behind-begins a y t (itself z (rest t o) .0) (z .pairs) q ∙ sym (behind-begins a x t (z .part-begins) o q)
+
+  -- its two answers and their records are the same, each moved by what makes up for the lengths
+  shifts : {b : List ℕ} → Exchanged a x y b → Rest x b → (r n d e : ℕ) → 0 < r → d + length x ≡ e + length y → begins (a ++ (x ++ b)) (length a + length x + r) ≡ true →
+      movedPart d (partOf (a ++ (x ++ b)) (length a + length x + r) n) ≡ movedPart e (partOf (a ++ (y ++ b)) (length a + length y + r) n)
+  shifts z no-rest r n d e h l k = absurd (true≢false (sym k ∙ past a x r h))
+  shifts z (rest t o) zero n d e h l k = absurd (omega arith)
+  shifts z (rest t o) (suc q) n d e h l k =
+      let c : begins t q ≡ true = sym (behind-begins a x t (z .part-begins) o q) ∙ k in
+      let f : d + (length a + length x + 1) ≡ e + (length a + length y + 1) = omega arith in
+      rw (
+        behind-moves a x t (z .part-begins) o q n (z .old-fits) c,
+        behind-moves a y t (itself z (rest t o) .0) (z .pairs) q n (z .new-fits) c,
+        part-twice d (length a + length x + 1) (partOf t q n),
+        part-twice e (length a + length y + 1) (partOf t q n),
+        f,
+      )
+
+-- ---- the theorems
+
+module _ {a x y b : List ℕ} (z : Exchanged a x y b) where
+  -- what stands behind x
+  behind-x : Rest x b
+  unfolding partEnd
+  behind-x =
+      let e : partIn false (x ++ b) ≡ length x = omega (arith, z .part-ends, ap (partIn false) (drop-append-seam a (x ++ b))) in
+      rest-of x b e
+
+  -- a part before x ends before it
+  ends-before : (p : ℕ) → p < length a → begins (a ++ (x ++ b)) p ≡ true → partEnd (a ++ (x ++ b)) p < length a
+  ends-before p h k = go (decLt (partEnd (a ++ (x ++ b)) p) (length a))
+    where
+      go : Dec (partEnd (a ++ (x ++ b)) p < length a) → partEnd (a ++ (x ++ b)) p < length a
+      go (yes l) = l
+      go (no l) = absurd (true≢false (sym (z .part-begins) ∙ begins-none (a ++ (x ++ b)) p (length a) k h (omega arith)))
+
+  -- y is a part of the second sheet
+  pub exchange-itself : (begins (a ++ (y ++ b)) (length a) ≡ true) × (partEnd (a ++ (y ++ b)) (length a) ≡ length a + length y)
+  exchange-itself = itself z behind-x
+
+  -- a part before x is a part of the second sheet, and is answered as it was
+  pub exchange-before : (p n : ℕ) → p < length a → begins (a ++ (x ++ b)) p ≡ true → (begins (a ++ (y ++ b)) p ≡ true) × (partOf (a ++ (y ++ b)) p n ≡ partOf (a ++ (x ++ b)) p n)
+  unfolding partOf withNext
+  exchange-before p n h k =
+      let e = partEnd (a ++ (x ++ b)) p in
+      let l : e < length a = ends-before p h k in
+      let c : begins (a ++ (y ++ b)) p ≡ true = begins-earlier a (y ++ b) p (omega arith) ∙ sym (begins-earlier a (x ++ b) p (omega arith)) ∙ k in (
+        c,
+        rw (
+          le-ltb 4096 (length (a ++ (y ++ b))) (z .new-fits),
+          le-ltb 4096 (length (a ++ (x ++ b))) (z .old-fits),
+          c,
+          k,
+          end-earlier a (x ++ b) (y ++ b) p l,
+          take-append-le e a (x ++ b) (omega arith),
+          take-append-le e a (y ++ b) (omega arith),
+          lt-ltb e (length (a ++ (x ++ b))) (simp length-append (omega arith)),
+          lt-ltb e (length (a ++ (y ++ b))) (simp length-append (omega arith)),
+        ),
+      )
+
+  module _ (r n : ℕ) (h : 0 < r) (k : begins (a ++ (x ++ b)) (length a + length x + r) ≡ true) where
+    -- a part behind x is a part of the second sheet, and is answered as it was, with its places shifted
+    pub exchange-behind : (begins (a ++ (y ++ b)) (length a + length y + r) ≡ true) ×
+        (movedPart (length y) (partOf (a ++ (x ++ b)) (length a + length x + r) n) ≡ movedPart (length x) (partOf (a ++ (y ++ b)) (length a + length y + r) n))
+    exchange-behind = (places z behind-x r h ∙ k, shifts z behind-x r n (length y) (length x) h (omega arith) k)
+
+    -- where y is the longer, its places are later by the difference
+    pub exchange-longer : length x ≤ length y → partOf (a ++ (y ++ b)) (length a + length y + r) n ≡ movedPart (length y - length x) (partOf (a ++ (x ++ b)) (length a + length x + r) n)
+    exchange-longer l = sym (shifts z behind-x r n (length y - length x) 0 h (omega arith) k ∙ part-still (partOf (a ++ (y ++ b)) (length a + length y + r) n))
+
+    -- where x is, they were later
+    pub exchange-shorter : length y ≤ length x → partOf (a ++ (x ++ b)) (length a + length x + r) n ≡ movedPart (length x - length y) (partOf (a ++ (y ++ b)) (length a + length y + r) n)
+    exchange-shorter l = sym (part-still (partOf (a ++ (x ++ b)) (length a + length x + r) n)) ∙ shifts z behind-x r n 0 (length x - length y) h (omega arith) k
+
+  -- the exchange: each other part of the first sheet is left
+  pub exchange : (p n : ℕ) → begins (a ++ (x ++ b)) p ≡ true → p ≢ length a → Left a x y b n p
+  exchange p n k d = go (apart (a ++ (x ++ b)) (length a) p (z .part-begins) k d)
+    where
+      go : (p < length a) ⊎ (partEnd (a ++ (x ++ b)) (length a) < p) → Left a x y b n p
+      go (inl h) = let w = exchange-before p n h k in before h (w .0) (w .1)
+      go (inr h) =
+          let r = p - (length a + length x) in
+          let e : length a + length x + r ≡ p = omega (arith, z .part-ends) in
+          let l : 0 < r = omega (arith, z .part-ends) in
+          let w = exchange-behind r n l (rw e k) in
+          subst (Left a x y b n) e (behind r l (w .0) (w .1))
+
+  -- and each other part of the second was one of the first
+  pub exchange-others : (p : ℕ) → begins (a ++ (y ++ b)) p ≡ true → p ≢ length a → Was a x y b p
+  exchange-others p k d = go (apart (a ++ (y ++ b)) (length a) p (exchange-itself .0) k d)
+    where
+      go : (p < length a) ⊎ (partEnd (a ++ (y ++ b)) (length a) < p) → Was a x y b p
+      go (inl h) = before h (begins-earlier a (x ++ b) p (omega arith) ∙ sym (begins-earlier a (y ++ b) p (omega arith)) ∙ k)
+      go (inr h) =
+          let r = p - (length a + length y) in
+          let e : length a + length y + r ≡ p = omega (arith, exchange-itself .1) in
+          let l : 0 < r = omega (arith, exchange-itself .1) in
+          subst (Was a x y b) e (behind r l (sym (places z behind-x r l) ∙ rw e k))
+
+  -- the exchange, at the calls: with a table as long as before, each other part has its old answer and records
+  pub exchange-call : (p : ℕ) (t t′ : List ℤ) → length t ≡ length t′ → begins (a ++ (x ++ b)) p ≡ true → p ≢ length a → LeftCall a x y b t t′ p
+  exchange-call p t t′ l k d = go (exchange p (length t) k d)
+    where
+      go : {p : ℕ} → Left a x y b (length t) p → LeftCall a x y b t t′ p
+      go (before {p} h c e) = before h (rw (← e, l) (call-is (a ++ (y ++ b)) p t′))
+      go (behind r h c e) =
+          let q = length a + length y + r in
+          behind r (partOf (a ++ (y ++ b)) q (length t)) h e (rw l (call-is (a ++ (y ++ b)) q t′))

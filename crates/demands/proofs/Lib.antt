@@ -1,0 +1,10 @@
+pub mod Cuts
+pub mod TextMoves
+pub mod Alone
+pub mod PartMoves
+pub mod Exchange
+pub mod Places
+pub mod WarnedCut
+pub mod Together
+pub mod TogetherCalls
+pub mod TogetherWords

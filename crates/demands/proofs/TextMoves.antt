@@ -1,0 +1,80 @@
+-- The answer and the records of a text that stands behind u are its own, with their places moved.
+use Prim.Native.Nat.{ℕ, zero, suc, _+_, _/_}
+use mathlib.Core.List.{List, [], _∷_, _++_, map, map-append}
+use mathlib.Core.Bool.{Bool, true, false}
+use mathlib.Core.Path.{_≡_, refl}
+use native.Mathlib.Omega.{arith}
+use lib.Dec.{ltb, eqb·suc-zero}
+use lib.IntN.{ℤ, pos}
+use lib.ListN.{length, drop, length-map}
+use lib.Seq.{drop-append-add}
+use Rattle.names.specs.Tests.{if_then_else_}
+use Rattle.names.specs.Read.{Read, got, none, refused}
+use Rattle.names.proofs.Local.{stop-end, Ends, moved}
+use Rattle.records.specs.Words.{record16, wordsOf}
+use Rattle.records.specs.declared.Item.{Item}
+use Rattle.records.specs.declared.Item.the-variants.{Years, Months, Dates, Weeks, Weekdays, Holidays, Times}
+use Rattle.rules.specs.Heads.{headWords}
+use Rattle.rules.specs.Rules.{Rule}
+use Rattle.rules.specs.declared.Head.{Head}
+use Rattle.rules.proofs.Cut.{startMoves, headMoves, ruleMoves}
+use Rattle.sheet.specs.Texts.{rules, records}
+use Rattle.sheet.specs.Warnings.{warningsOf}
+use Rattle.sheet.specs.Sheets.{answerOf, refusal, judgedText, textOf}
+use Rattle.demands.specs.Moved.{movedRecord, movedReading}
+use Rattle.sheet.proofs.Moves.{rulesMove, rules-ended, rules-move}
+
+-- ---- records
+
+-- the words of a head that moves
+head-moves : (d : ℕ) (h : Head) → movedRecord d (headWords h) ≡ headWords (headMoves d h)
+unfolding movedRecord headWords
+head-moves d h = go (h .comment .length)
+  where
+    words : ℕ → ℕ → List ℤ
+    words start l = record16 (pos 1 ∷ pos (h .separator) ∷ pos (h .state) ∷ pos start ∷ pos l ∷ pos (h .items) ∷ [])
+
+    go : (l : ℕ) → movedRecord d (words (h .comment .start) l) ≡ words (startMoves d l (h .comment .start)) l
+    go zero = refl
+    go (suc l) = rw (eqb·suc-zero l)
+
+-- the words of an item hold no place
+item-stays : (d : ℕ) (a : Item) → movedRecord d (wordsOf a) ≡ wordsOf a
+unfolding movedRecord wordsOf
+item-stays d (Years r) = refl
+item-stays d (Months r) = refl
+item-stays d (Dates r) = refl
+item-stays d (Weeks r) = refl
+item-stays d (Weekdays r) = refl
+item-stays d (Holidays r) = refl
+item-stays d (Times r) = refl
+
+-- nor do those of a list of items
+items-stay : (d : ℕ) (l : List Item) → map (movedRecord d) (map wordsOf l) ≡ map wordsOf l
+items-stay d [] = refl
+items-stay d (a ∷ l) = rw (item-stays d a, items-stay d l)
+
+-- the records of rules that move
+records-move : (d : ℕ) (l : List Rule) → records (map (ruleMoves d) l) ≡ map (movedRecord d) (records l)
+unfolding records
+records-move d [] = refl
+records-move d (r ∷ l) = rw (records-move d l, map-append (movedRecord d) (map wordsOf (r .1)) (records l), items-stay d (r .1), head-moves d (r .0))
+
+-- ---- answers
+
+-- the move law of a reading
+pub text-move : (u s : List ℕ) (p n : ℕ) → textOf (u ++ s) (length u + p) n ≡ movedReading (length u) (textOf s p n)
+unfolding textOf
+text-move u s p n = rw (rules-move u s p) (go _ (rules s p) (rules-ended [] .ends s [] p stop-end tt))
+  where
+    stored-moves : (rs : List (List ℤ)) (full : Bool) → (if full then refusal 10 (length u + p) else (answerOf 0 0 (length rs) (warningsOf (drop p s)), map (movedRecord (length u)) rs))
+        ≡ movedReading (length u) (if full then refusal 10 p else (answerOf 0 0 (length rs) (warningsOf (drop p s)), rs))
+    stored-moves rs true = refl
+    stored-moves rs false = refl
+
+    go : (P : ℕ → Type 0) (r : Read (List Rule × Unit {0})) → Ends P r → judgedText (u ++ s) (length u + p) n (moved rulesMove (length u) r) ≡ movedReading (length u) (judgedText s p n r)
+    go P (got l j) h =
+        rw (records-move (length u) (l .0), length-map (records (l .0)) (movedRecord (length u)), drop-append-add u s p) (stored-moves (records (l .0)) (ltb (n / 16) (length (records (l .0)))))
+    go P none h = refl
+    go P (refused zero q) h = absurd (omega arith)
+    go P (refused (suc k) q) h = rw (eqb·suc-zero k)

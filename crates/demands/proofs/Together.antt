@@ -1,0 +1,274 @@
+-- The parts of a sheet and the sheet: where the table holds everything, the sheet is accepted exactly when every part is, with their records in order.
+use Prim.Native.Nat.{ℕ, zero, suc, _+_, _≤_, _<_, _/_}
+use mathlib.Core.List.{List, [], _∷_, _++_, append-nil, append-assoc}
+use mathlib.Core.Bool.{Bool, true, false}
+use mathlib.Core.Path.{_≡_, refl, sym, ap, _∙_}
+use native.Mathlib.Omega.{arith}
+use native.Mathlib.Nat.{add-zero}
+use native.Mathlib.Decide.{decLt}
+use lib.Dec.{ltb}
+use lib.IntN.{ℤ}
+use lib.ListN.{length, take, drop, length-append}
+use lib.Seq.{length-take-le, take-all, drop-append-le}
+use borrow.Author.Tests.{le-ltb, lt-ltb}
+use Rattle.names.specs.Tests.{if_then_else_}
+use Rattle.names.specs.Read.{Read, got, none, refused}
+use Rattle.names.proofs.Local.{Ends, stop-end}
+use Rattle.rules.specs.Rules.{Rule}
+use Rattle.rules.specs.Tables.{ruleRecords}
+use Rattle.sheet.specs.Texts.{rules, records}
+use Rattle.sheet.specs.Sheets.{answerOf, refusal, judgedText, textOf, sheetOf}
+use Rattle.sheet.specs.Warnings.{warningsOf}
+use Rattle.sheet.specs.Parts.{partEnd, begins, places}
+use Rattle.sheet.specs.PartReadings.{partAnswerOf, withNext, partTo, partOf}
+use Rattle.sheet.specs.declared.Answer.{Answer}
+use Rattle.sheet.specs.declared.PartAnswer.{PartAnswer}
+use Rattle.sheet.proofs.Laws.{part-begin, begins-first}
+use Rattle.sheet.proofs.Moves.{rules-ended}
+use Rattle.demands.proofs.Cuts.{joined, rules-cut}
+use Rattle.sheet.proofs.PartLaws.{begins-fits, begins-next, end-split, end-paired}
+use Rattle.demands.proofs.Places.{placesFrom, places-all, places-next, places-none}
+use Rattle.demands.proofs.WarnedCut.{warnings-two}
+
+-- ---- what parts come to
+
+-- the answer and the records of a text, and of a part
+abbrev pub Reading : Type 0
+Reading = Answer × List (List ℤ)
+
+abbrev pub PartReading : Type 0
+PartReading = PartAnswer × List (List ℤ)
+
+-- what holds at every one of these places
+abbrev pub Every : (ℕ → Type 0) → List ℕ → Type 0
+Every P [] = Unit {0}
+Every P (p ∷ ps) = P p × Every P ps
+
+-- the sum of what is counted at them
+abbrev pub total : (ℕ → ℕ) → List ℕ → ℕ
+total f [] = 0
+total f (p ∷ ps) = f p + total f ps
+
+-- what is found at them, in order
+abbrev pub inOrder : {A : Type 0} → (ℕ → List A) → List ℕ → List A
+inOrder f [] = []
+inOrder f (p ∷ ps) = f p ++ inOrder f ps
+
+-- a reading r, with a table of n words, is accepted exactly when every part at these places is and the table holds all their records; then it has their records in order, and their counts are added
+pub record Together (n : ℕ) (r : Reading) (part : ℕ → PartReading) (ps : List ℕ) : Type 0 where
+  pub accepted : Every (λ p. part p .0 .number ≡ 0) ps → total (λ p. part p .0 .records) ps ≤ n / 16 → r .0 .number ≡ 0
+  pub every : r .0 .number ≡ 0 → Every (λ p. part p .0 .number ≡ 0) ps
+  pub holds : r .0 .number ≡ 0 → total (λ p. part p .0 .records) ps ≤ n / 16
+  pub made : r .0 .number ≡ 0 → r .1 ≡ inOrder (λ p. part p .1) ps
+  pub counted : r .0 .number ≡ 0 → r .0 .records ≡ total (λ p. part p .0 .records) ps
+  pub warned : r .0 .number ≡ 0 → r .0 .warnings ≡ total (λ p. part p .0 .warnings) ps
+
+-- ---- records in a table
+
+-- records that a table of n words holds, with w warnings, or 10 at p
+abbrev kept : ℕ → ℕ → List (List ℤ) → ℕ → Reading
+kept n p rs w = if ltb (n / 16) (length rs) then refusal 10 p else (answerOf 0 0 (length rs) w, rs)
+
+-- records that it holds
+kept-all : (n p : ℕ) (rs : List (List ℤ)) (w : ℕ) → length rs ≤ n / 16 → kept n p rs w ≡ (answerOf 0 0 (length rs) w, rs)
+kept-all n p rs w h = rw (le-ltb (n / 16) (length rs) h)
+
+-- and records that it does not
+kept-none : (n p : ℕ) (rs : List (List ℤ)) (w : ℕ) → n / 16 < length rs → kept n p rs w ≡ refusal 10 p
+kept-none n p rs w h = rw (lt-ltb (n / 16) (length rs) h)
+
+-- those that are accepted, it holds
+kept-fits : (n p : ℕ) (rs : List (List ℤ)) (w : ℕ) → kept n p rs w .0 .number ≡ 0 → length rs ≤ n / 16
+kept-fits n p rs w = go (decLt (n / 16) (length rs))
+  where
+    go : Dec (n / 16 < length rs) → kept n p rs w .0 .number ≡ 0 → length rs ≤ n / 16
+    go (yes h) e = let z : _≡_ {A = ℕ} 10 0 = rw (kept-none n p rs w h) at e in omega arith
+    go (no h) e = omega arith
+
+-- ---- two texts
+
+-- a reading r is accepted exactly when a and b are and the table holds the records of both; then it has theirs
+record Two (n : ℕ) (a b r : Reading) : Type 0 where
+  good : a .0 .number ≡ 0 → b .0 .number ≡ 0 → a .0 .records + b .0 .records ≤ n / 16 → r .0 .number ≡ 0
+  first : r .0 .number ≡ 0 → a .0 .number ≡ 0
+  second : r .0 .number ≡ 0 → b .0 .number ≡ 0
+  room : r .0 .number ≡ 0 → a .0 .records + b .0 .records ≤ n / 16
+  both : r .0 .number ≡ 0 → r .1 ≡ a .1 ++ b .1
+  counts : r .0 .number ≡ 0 → r .0 .records ≡ a .0 .records + b .0 .records
+  warns : r .0 .number ≡ 0 → r .0 .warnings ≡ a .0 .warnings + b .0 .warnings
+
+-- a refusal, where one of the two is refused or the table holds too little
+two-refused : (n : ℕ) (a b r : Reading) → (a .0 .number ≡ 0 → b .0 .number ≡ 0 → a .0 .records + b .0 .records ≤ n / 16 → ⊥) → 0 < r .0 .number → Two n a b r
+two-refused n a b r h k =
+    record {
+      good = λ e f l. absurd (h e f l);
+      first = λ e. absurd (omega arith);
+      second = λ e. absurd (omega arith);
+      room = λ e. absurd (omega arith);
+      both = λ e. absurd (omega arith);
+      counts = λ e. absurd (omega arith);
+      warns = λ e. absurd (omega arith);
+    }
+
+-- the records of both
+two-kept : (n p q o : ℕ) (x y : List (List ℤ)) (v w : ℕ) → Two n (kept n p x v) (kept n q y w) (kept n o (x ++ y) (v + w))
+two-kept n p q o x y v w = go (decLt (n / 16) (length (x ++ y)))
+  where
+    go : Dec (n / 16 < length (x ++ y)) → Two n (kept n p x v) (kept n q y w) (kept n o (x ++ y) (v + w))
+    go (yes h) =
+        rw (kept-none n o (x ++ y) (v + w) h)
+        (two-refused n (kept n p x v) (kept n q y w) (refusal 10 o)
+        (λ e f l. omega (arith, length-append x y, rw (kept-all n p x v (kept-fits n p x v e), kept-all n q y w (kept-fits n q y w f)) at l))
+        (omega arith))
+    go (no h) =
+        rw (kept-all n p x v (omega (arith, length-append x y)), kept-all n q y w (omega (arith, length-append x y)), kept-all n o (x ++ y) (v + w) (omega arith))
+        (record {
+          good = λ e f l. refl;
+          first = λ e. refl;
+          second = λ e. refl;
+          room = λ e. omega (arith, length-append x y);
+          both = λ e. refl;
+          counts = λ e. length-append x y;
+          warns = λ e. refl;
+        })
+
+-- the records of rules, one list after another
+records-append : (l m : List Rule) → records (l ++ m) ≡ records l ++ records m
+unfolding records
+records-append [] m = refl
+records-append (r ∷ l) m = rw (records-append l m) (sym (append-assoc (ruleRecords r) (records l) (records m)))
+
+-- what the rules of two texts come to
+two-judged : (u s : List ℕ) (p q n : ℕ) (P Q : ℕ → Type 0) (x y : Read (List Rule × Unit {0})) → warningsOf (drop p s) ≡ warningsOf (drop p u) + warningsOf (drop q s) → Ends P x → Ends Q y →
+    Two n (judgedText u p n x) (judgedText s q n y) (judgedText s p n (joined x y))
+two-judged u s p q n P Q (got l i) (got m j) w f g = rw (w, records-append (l .0) (m .0)) (two-kept n p q p (records (l .0)) (records (m .0)) (warningsOf (drop p u)) (warningsOf (drop q s)))
+two-judged u s p q n P Q (got l i) none w f g = two-refused n (judgedText u p n (got l i)) (refusal 3 q) (refusal 3 p) (λ a b c. omega arith) (omega arith)
+two-judged u s p q n P Q (got l i) (refused k o) w f g = two-refused n (judgedText u p n (got l i)) (refusal k o) (refusal k o) (λ a b c. omega arith) g
+two-judged u s p q n P Q none y w f g = two-refused n (refusal 3 p) (judgedText s q n y) (refusal 3 p) (λ a b c. omega arith) (omega arith)
+two-judged u s p q n P Q (refused k o) y w f g = two-refused n (refusal k o) (judgedText s q n y) (refusal k o) (λ a b c. omega arith) f
+
+-- the text from a part's beginning on: that part, and the text behind the `;` that ends it
+two-texts : (s : List ℕ) (p n : ℕ) → partEnd s p < length s → Two n (textOf (take (partEnd s p) s) p n) (textOf s (suc (partEnd s p)) n) (textOf s p n)
+unfolding textOf
+two-texts s p n h = rw cut (two-judged u s p (suc e) n _ _ (rules u p) (rules s (suc e)) warnings (rules-ended [] .ends u [] p stop-end tt) (rules-ended [] .ends s [] (suc e) stop-end tt))
+  where
+    e : ℕ
+    e = partEnd s p
+
+    u : List ℕ
+    u = take e s
+
+    t : List ℕ
+    t = drop (suc e) s
+
+    split : s ≡ u ++ 59 ∷ t
+    split = end-split s p h
+
+    size : length u ≡ e
+    size = length-take-le e s (omega arith)
+
+    before : p ≤ length u
+    before = omega (arith, size, part-begin s p)
+
+    cut : rules s p ≡ joined (rules u p) (rules s (suc e))
+    cut =
+        ap (λ z. rules z p) split
+        ∙ rules-cut u t p (record { fits = before; side = end-paired s p h })
+        ∙ ap (λ z. joined (rules u p) (rules z (suc (length u)))) (sym split)
+        ∙ ap (λ k. joined (rules u p) (rules s (suc k))) size
+
+    warnings : warningsOf (drop p s) ≡ warningsOf (drop p u) + warningsOf (drop (suc e) s)
+    warnings = ap (λ z. warningsOf (drop p z)) split ∙ ap warningsOf (drop-append-le p u (59 ∷ t) before) ∙ warnings-two (drop p u) t (end-paired s p h)
+
+-- an accepted text's records are held
+text-fits : (s : List ℕ) (p n : ℕ) → textOf s p n .0 .number ≡ 0 → textOf s p n .0 .records ≤ n / 16
+unfolding textOf
+text-fits s p n = go (rules s p)
+  where
+    go : (x : Read (List Rule × Unit {0})) → judgedText s p n x .0 .number ≡ 0 → judgedText s p n x .0 .records ≤ n / 16
+    go (got l j) e = let h = kept-fits n p (records (l .0)) (warningsOf (drop p s)) e in rw (le-ltb (n / 16) (length (records (l .0))) h) h
+    go none e = omega arith
+    go (refused k q) e = omega arith
+
+-- ---- all parts
+
+-- a part's answer and records, with what is said of the next
+abbrev pub parting : Reading → ℕ → Bool → PartReading
+parting r next last = (partAnswerOf (r .0) next last, r .1)
+
+module _ {n : ℕ} {r : Reading} (part : ℕ → PartReading) (p : ℕ) where
+  -- one part
+  together-one : {next : ℕ} {last : Bool} → part p ≡ parting r next last → (r .0 .number ≡ 0 → r .0 .records ≤ n / 16) → Together n r part (p ∷ [])
+  together-one q h =
+      let k : part p .0 .records ≡ r .0 .records = ap (λ (a : PartReading). a .0 .records) q in
+      record {
+        accepted = λ w l. sym (ap (λ (a : PartReading). a .0 .number) q) ∙ w .0;
+        every = λ e. (ap (λ (a : PartReading). a .0 .number) q ∙ e, tt);
+        holds = λ e. omega (arith, h e);
+        made = λ e. sym (append-nil (part p .1) ∙ ap (λ (a : PartReading). a .1) q);
+        counted = λ e. omega arith;
+        warned = λ e. sym (add-zero (part p .0 .warnings) ∙ ap (λ (a : PartReading). a .0 .warnings) q);
+      }
+
+  -- a part more
+  together-more : {a b : Reading} {next : ℕ} {last : Bool} {ps : List ℕ} → part p ≡ parting a next last → Two n a b r → Together n b part ps → Together n r part (p ∷ ps)
+  together-more {a} {b} q z w =
+      let i : part p .0 .number ≡ a .0 .number = ap (λ (x : PartReading). x .0 .number) q in
+      let k : part p .0 .records ≡ a .0 .records = ap (λ (x : PartReading). x .0 .records) q in
+      let j : part p .0 .warnings ≡ a .0 .warnings = ap (λ (x : PartReading). x .0 .warnings) q in
+      record {
+        accepted = λ g l. let o : b .0 .number ≡ 0 = w .accepted (g .1) (omega arith) in z .good (sym i ∙ g .0) o (omega (arith, w .counted o));
+        every = λ e. (i ∙ z .first e, w .every (z .second e));
+        holds = λ e. omega (arith, z .room e, w .counted (z .second e));
+        made = λ e. z .both e ∙ rw (← w .made (z .second e), q);
+        counted = λ e. omega (arith, z .counts e, w .counted (z .second e));
+        warned = λ e. omega (arith, z .warns e, w .warned (z .second e));
+      }
+
+-- the part that begins at p
+part-is : (s : List ℕ) (p n : ℕ) → length s ≤ 4096 → begins s p ≡ true → partOf s p n ≡ partTo s p n (partEnd s p)
+unfolding partOf
+part-is s p n h b = rw (le-ltb 4096 (length s) h, b)
+
+-- where it is not the last
+pub part-more : (s : List ℕ) (p n : ℕ) → length s ≤ 4096 → begins s p ≡ true → partEnd s p < length s → partOf s p n ≡ parting (textOf (take (partEnd s p) s) p n) (suc (partEnd s p)) false
+unfolding withNext
+part-more s p n h b l = part-is s p n h b ∙ rw (lt-ltb (partEnd s p) (length s) l)
+
+-- where it is
+pub part-last : (s : List ℕ) (p n : ℕ) → length s ≤ 4096 → begins s p ≡ true → length s ≤ partEnd s p → partOf s p n ≡ parting (textOf s p n) 0 true
+unfolding withNext
+part-last s p n h b l = part-is s p n h b ∙ rw (le-ltb (partEnd s p) (length s) l, take-all (partEnd s p) s l)
+
+-- from a part on, by the bytes that are left
+together-from : (k : ℕ) (s : List ℕ) (p n : ℕ) → length s ≤ 4096 → begins s p ≡ true → length s < p + k → Together n (textOf s p n) (λ q. partOf s q n) (placesFrom s p)
+together-from zero s p n h b l = absurd (omega (arith, begins-fits s p b))
+together-from (suc k) s p n h b l = rw (places-next s p b) (go (decLt (partEnd s p) (length s)) (together-from k s (suc (partEnd s p)) n h))
+  where
+    go : Dec (partEnd s p < length s) → (begins s (suc (partEnd s p)) ≡ true → length s < suc (partEnd s p) + k → Together n (textOf s (suc (partEnd s p)) n) (λ q. partOf s q n) (placesFrom s (suc (partEnd s p)))) →
+        Together n (textOf s p n) (λ q. partOf s q n) (p ∷ placesFrom s (suc (partEnd s p)))
+    go (yes e) ih = together-more (λ q. partOf s q n) p (part-more s p n h b e) (two-texts s p n e) (ih (begins-next s p b e) (omega (arith, part-begin s p)))
+    go (no e) ih = rw (places-none s (suc (partEnd s p)) (omega arith)) (together-one (λ q. partOf s q n) p (part-last s p n h b (omega arith)) (text-fits s p n))
+
+-- a sheet and its parts
+pub together : (s : List ℕ) (n : ℕ) → length s ≤ 4096 → Together n (sheetOf s n) (λ p. partOf s p n) (places s)
+unfolding sheetOf
+together s n h = rw (le-ltb 4096 (length s) h, places-all s) (together-from (suc (length s)) s 0 n h (sym (begins-first s 0 refl)) (omega arith))
+
+-- in short, for a table of n words
+module _ (s : List ℕ) (n : ℕ) (h : length s ≤ 4096) where
+  -- where every part is accepted and the table holds all their records, the sheet is accepted
+  pub together-if : Every (λ p. partOf s p n .0 .number ≡ 0) (places s) → total (λ p. partOf s p n .0 .records) (places s) ≤ n / 16 → sheetOf s n .0 .number ≡ 0
+  together-if = together s n h .accepted
+
+  -- and only there
+  pub together-only-if : sheetOf s n .0 .number ≡ 0 → Every (λ p. partOf s p n .0 .number ≡ 0) (places s) × (total (λ p. partOf s p n .0 .records) (places s) ≤ n / 16)
+  together-only-if e = (together s n h .every e, together s n h .holds e)
+
+  -- with the parts' records in order
+  pub together-records : sheetOf s n .0 .number ≡ 0 → sheetOf s n .1 ≡ inOrder (λ p. partOf s p n .1) (places s)
+  together-records = together s n h .made
+
+  -- and their counts added
+  pub together-counts : sheetOf s n .0 .number ≡ 0 → (sheetOf s n .0 .records ≡ total (λ p. partOf s p n .0 .records) (places s)) × (sheetOf s n .0 .warnings ≡ total (λ p. partOf s p n .0 .warnings) (places s))
+  together-counts e = (together s n h .counted e, together s n h .warned e)

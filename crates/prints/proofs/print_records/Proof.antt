@@ -1,0 +1,28 @@
+-- `prints::print_records` is safe and ends.
+use borrow.Author.Needs.{needs}
+use Prim.Native.Nat.{_-_, _≤_}
+use lib.ListN.{length}
+use Rattle.prints.proofs.print_records.Statement.{statement}
+use Rattle.prints.proofs.print_records.Tie as tie
+
+abbrev Inv-loop : tie.InvT-loop
+Inv-loop table n k₀ at₀ k at = at ≤ length table
+
+abbrev μ-loop : tie.MeasureT-loop
+μ-loop table n k₀ at₀ k at = n - k
+
+pub print-records-spec : {M : Type 1} → statement M
+print-records-spec =
+    tie.close
+    (tie.spec
+    Inv-loop
+    μ-loop
+    (λ c. search needs)  -- loop-holds
+    (λ c. search needs)  -- sub-if1
+    (λ c. search needs)  -- returns
+    (λ c κs. search needs)  -- print-record-requires
+    (λ c. search needs)  -- add-at
+    (λ c. search needs)  -- add-k
+    (λ c. search needs)  -- loop-less
+    (λ c. search needs)  -- loop-again
+    (λ c. search needs))  -- returns-2

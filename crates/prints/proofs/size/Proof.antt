@@ -1,0 +1,17 @@
+-- `prints::size` is safe.
+use borrow.Author.Needs.{needs}
+use native.Mathlib.Omega.{arith}
+use mir.Facts.{fits-ofZ}
+use Rattle.prints.proofs.Laws.{plain, turned}
+use Rattle.prints.proofs.size.Statement.{statement}
+use Rattle.prints.proofs.size.Tie as tie
+
+pub size-spec : {M : Type 1} → statement M
+size-spec =
+    tie.close
+    (tie.spec
+    (λ c. rw (turned (c .before .args .w) (c .before .fits .w) (c .if1 .taken)) (tt, omega arith))  -- cast-result
+    (λ c. rw (turned (c .before .args .w) (c .before .fits .w) (c .if1 .taken)) (omega arith))  -- add-result
+    (λ c. search needs)  -- returns
+    (λ c. rw (plain (c .before .args .w) (c .before .fits .w) (c .if1 .left)) (tt, omega (arith, fits-ofZ (c .before .fits .w))))  -- cast-result-2
+    (λ c. search needs))  -- returns-2

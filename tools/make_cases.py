@@ -1,0 +1,216 @@
+#!/usr/bin/env python3
+"""Writes the cases of crates/cases: the sheets of tools/documents.txt and tools/specification.txt, and the systematic ones made here.
+
+    python3 tools/make_cases.py > crates/cases/stdin
+    python3 tools/reference.py cases crates/cases/stdin > crates/cases/stdout
+    python3 tools/make_cases.py count         how many of each origin
+
+documents.txt has the sheets of the rules and of their readings, specification.txt examples of the OpenStreetMap wiki's pages on opening hours, as far as they are remembered.
+A case's form is in reference.py, `case`. A line cannot hold byte 10 (three sheets of the readings have it, and are left out); every other byte stands in some sheet.
+"""
+import os
+import re
+import sys
+
+WORDS = 512
+TOOLS = os.path.dirname(os.path.abspath(__file__))
+
+
+def line(sheet, mode="S", words=WORDS, part=" "):
+    raw = sheet if isinstance(sheet, bytes) else re.sub(r"\\x([0-9a-f]{2})", lambda m: chr(int(m.group(1), 16)), sheet).encode("latin-1")
+    return b"%04d%s%s" % (words, mode.encode(), part.encode()) + raw
+
+
+def sheets_of(name):
+    text = open(os.path.join(TOOLS, name)).read()
+    return [line(s, "A") for s in text.split("\n")[:-1]]
+
+
+# ---- every piece behind every piece
+PIECES = ["24/7", '"c"', "2020", "2020-2022/2", "Jan", "Jan 5", "2021 Jan 5-7", "easter", "week 3", "Mo", "Mo[1]", "Tu-Th", "PH", "10:00-12:00", "sunset+", "off", 'open "d"']
+JOINTS = [" ", ",", ": "]
+
+
+def transitions():
+    return [line(a + j + b) for a in PIECES for b in PIECES for j in JOINTS]
+
+
+def joints():
+    """what stands between two pieces or rules, odd ones among them"""
+    odd = ["", "  ", " ,", ", ", " , ", ",  ", ",,", ";", " ; ", ";;", "; ;", "||", " || ", "|", "|||", "|| ||", ":", " :", " : ", "::", "-", " - ", "+", "/", ",;", ";,", ".", "\\x09", "\\x0d", "\\xa0"]
+    return [line(a + j + b, "A") for j in odd for a, b in [("Mo", "Tu"), ("2020", "Jan"), ("10:00-12:00", "13:00-14:00"), ("off", '"c"')]]
+
+
+def triples():
+    """all of a rule in its order, and the same with a piece left out or changed with its neighbour"""
+    all_of = ["2020-2021", "Jan 5-Feb 6", "week 3-5", "Mo,PH", "10:00-12:00", 'off "c"']
+    out = [all_of]
+    out += [all_of[:i] + all_of[i + 1:] for i in range(6)]
+    out += [all_of[:i] + [all_of[i + 1], all_of[i]] + all_of[i + 2:] for i in range(5)]
+    out += [all_of[:i] + [all_of[i]] + all_of[i:] for i in range(6)]
+    lines = [line(" ".join(x)) for x in out]
+    return lines + [line(" ".join(all_of[:i]) + ": " + " ".join(all_of[i:])) for i in range(1, 6)]
+
+
+# ---- every range, below, at and above its ends
+def ranges():
+    out = []
+
+    def each(numbers, *forms):
+        out.extend(f % n for f in forms for n in numbers)
+    each(["0000", "1899", "1900", "1901", "9998", "9999"], "%s", "%s+", "%s-9999", "1900-%s", "%s Jan", "%s Jan 5", "%s easter", "%s Jan Mo[1]", "Jan 5-%s Feb 6", "2020,%s")
+    each(["0", "1", "9", "00000", "32766", "32767", "32768", "99999"], "1900-9999/%s", "week 1-53/%s", "PH +%s days", "SH -%s day", "Jan 5 +%s days", "Jan 5-6 -%s days", "Mo[1] +%s days")
+    each(["254", "255", "256", "257", "0255", "00256"], "week 1-53/%s", "week 5-1/%s")
+    each(["0", "00", "1", "01", "30", "31", "32", "99"], "Jan %s", "Jan 5-%s", "Jan 5-Feb %s", "Jan Mo[1]-%s", "easter-%s")
+    each(["0", "00", "1", "01", "52", "53", "54", "99"], "week %s", "week %s-53", "week 1-%s", "week 2,%s")
+    each("012345679", "Mo[%s]", "Mo[-%s]", "Mo[%s-5]", "Mo[1-%s]", "Mo[2,%s]", "Jan Mo[%s]", "Jan Mo[-%s]", "Jan 5-Feb Mo[%s]")
+    each(["00", "01", "58", "59", "60", "99"], "10:%s+", "10:00-12:%s", "(sunset+1:%s)+", "10:00-(dawn-1:%s)", "10:00-12:00/%s", "10:00-12:00/1:%s", "24:%s+", "10:00-48:%s", "10:00-24:%s")
+    each(["0", "00", "9", "22", "23", "24", "25", "47", "48", "49", "99"], "%s:00+", "10:00-%s:00", "(sunset+%s:00)+", "(sunrise-%s:00)-12:00", "10:00-(dusk-%s:00)", "10:00-12:00/%s:00")
+    return [line(s) for s in out]
+
+
+def orders():
+    """first against last, and the step against their difference"""
+    out = [f"{2000 + a}-{2000 + b}" for a, b in [(0, 0), (0, 1), (1, 0), (5, 4)]]
+    out += [f"2000-{2000 + d}/{n}" for d in (0, 1, 5) for n in sorted({0, 1, max(d - 1, 0), d, d + 1})]
+    out += [f"week {a}-{b}" for a, b in [(7, 7), (7, 8), (8, 7), (53, 1)]]
+    out += [f"week 10-{10 + d}/{n}" for d in (0, 1, 5) for n in sorted({0, 1, max(d - 1, 0), d, d + 1})]
+    return [line(s) for s in out]
+
+
+# ---- meaning
+MONTHS = "Jan Feb Mar Apr May Jun Jul Aug Sep Oct Nov Dec".split()
+DAYS = "Mo Tu We Th Fr Sa Su".split()
+
+
+def bare_days():
+    out = [f"{y}{m} 15-{d}" for y in ("", "2020 ", "9999 ") for m in MONTHS for d in (14, 15, 16)]
+    out += [f"{y}{m} We[-2]-{d}" for y in ("", "9999 ") for m in ("Jan", "Dec") for d in (1, 31)]
+    out += [s + o for s in ("2020 Dec 25-5", "Jan 31 -2 days-30", "Dec 31+Su-1") for o in ("", "+Mo", "-Su", " +3 days", "-Tu -4 days", " +3 day")]
+    return [line(s) for s in out]
+
+
+def marks():
+    out = [f"{d}[{e}]" for d in ("Mo", "Su") for e in ("1-5", "2-4", "3-3", "4-2", "-1,-5", "1,-1", "5,4,3,2,1", "-3,2-4,1", "3-1,4-2", "3-1,-2", "1,1,1")]
+    out += [f"{a}-{b}" for a in DAYS for b in ("Mo", "Th", "Su")]
+    out += [f"Mar {d}[{n}]" for d in DAYS for n in (1, -5)]
+    return [line(s) for s in out]
+
+
+def names():
+    """each name as it should be, all capitals, all small, and with another letter changed"""
+    forms = {"%s": DAYS + ["PH", "SH"], "%s-%s": MONTHS, "%s+": ["dawn", "sunrise", "sunset", "dusk"], "Mo %s": ["open", "closed", "off", "unknown"], "%s off": ["easter"],
+             "%s 3": ["week"], "PH +1 %s": ["day", "days"]}
+    out = []
+    for form, some in forms.items():
+        for n in some:
+            for spelt in dict.fromkeys([n, n.upper(), n.lower(), n.capitalize(), n[:-1].lower() + n[-1].upper(), n[0] + n[1:].upper()]):
+                out.append(form.replace("%s", spelt))
+    out += ["Sunset", "Su-Sunrise", "we", "WE", "week", "wee", "Weekday", "Ma", "Marc 5", "Mayo", "Octo", "offf", "opened", "Sund", "SUNSET-SUNRISE", "jan-DEC,mar 5-APR mo[1]", "mo;TU;wE", '"mo": mo "MO" ', 'OFF "OFF"']
+    return [line(s) for s in out]
+
+
+# ---- places and refusal numbers
+BAD = {3: "x", 4: "1899", 5: "week 1-5/256", 6: "2021-2020", 7: "week 5-1", 8: "10:00", 9: "easter-05"}
+
+
+def refusals():
+    out = []
+    for bad in BAD.values():
+        for before, behind in [("", ";Mo"), ("  ", ""), ("Mo;", ""), ("Mo; ", ";Tu"), ("Mo, ", ""), ("Mo ||  ", " "), ("Mo,Tu 10:00-12:00;  ", "  ; x"), ('"a;b", ', ";;")]:
+            out.append(line(before + bad + behind, "A"))
+    for a in BAD.values():
+        for b in BAD.values():
+            out.append(line(a + ";" + b))
+            out.append(line(a + "," + b))
+    return out
+
+
+def tables():
+    """tables of 0 words and more against sheets of 1 record and more"""
+    sizes = [0, 1, 15, 16, 17, 31, 32, 33, 47, 48, 63, 64, 80, 512]
+    texts = ["off", "Mo", "Mo,Tu", "Mo;Tu", " Mo; off", "Mo, Tu", "Mo;x", "", "10:00"]
+    return [line(s, "A", w) for s in texts for w in sizes]
+
+
+def blanks():
+    out = ["", " ", "  ", "Mo", " Mo", "Mo ", "  Mo  ", "Mo  ;  Tu", "  Mo  ,  Tu  ", "  Mo  ||  Tu  ", "2020  Jan", "2020  Jan  5", "Jan  5-Feb  6", "Jan  Mo[1]", "week  3", "week3", "PH  +1  day", "PH  + 1 day", "Mo  10:00-12:00",
+           "Mo  off", 'Mo  off  "c"', '"c":  Mo', "Jan:  Mo", "24/7  off", "24 /7", "Mo -Tu", "Mo- Tu", "Mo[ 1]", "Mo[1 ]", "Mo [1]", "10 :00+", "10: 00+", "10:00 +", "10:00- 12:00", "10:00-12:00 +", "10:00-12:00 /30", "10:00-12:00/ 30",
+           "(sunset +1:00)+", "( sunset+1:00)+", "(sunset+1:00 )+", "2020 -2021", "2020- 2021", "2020-2021 /2", "2020 +", "Jan -Feb", "Jan- Feb", "Jan 5 -Feb 6", "Jan 5- Feb 6", "Jan 5 +", "Jan 5 +Mo", "Jan 5+ Mo", "easter +Mo", "easter  -1  days", "week 1 -2", "week 1- 2", '" "', '"c" ', ' "c"', '"c" :', '"c":', '"c": ']
+    return [line(s, "A") for s in out]
+
+
+# ---- bytes
+def odd_bytes():
+    out = [line(b"Mo" + bytes([b])) for b in range(256) if b != 10]
+    out += [line(b'"' + bytes([b]) + b'"', "A") for b in list(range(10)) + list(range(11, 36)) + [126, 127, 128, 159, 160, 191, 192, 254, 255]]
+    every = bytes(b for b in range(32, 256) if b != 34)
+    out += [line(b'"' + every + b'"', "A"), line(b'Mo "' + every + b'"; Tu off "' + every + b'"', "A")]
+    out += [line(bytes([b]) + b"Mo", "A") for b in (0, 9, 13, 31, 127, 128, 194, 239, 255)]
+    return out
+
+
+def quotes():
+    out = ['"', '""', '"""', '""""', '"a', 'a"', '"a"b"', '"a""b"', '"a" "b"', 'Mo "a;b"; Tu "c;d"', 'Mo";Tu', 'Mo ";Tu";We', 'Mo "";Tu', ';"', '";', '";";', 'Mo;"a', 'Mo;"a;Tu', '"a;"', '"a;";', '"a":;Mo', '"a;b": Mo;Tu', 'Mo "a"; "b": Tu "c"; off "d"', ';', ';;', ';;;', ' ; ; ', 'Mo;', ';Mo', 'Mo "a\\x01;b"; Tu', 'Mo "a, b || c", Tu "d" || We "e"', '"a"||"b"', '"a", "b"', '"a","b"', 'Mo "a" ;Tu', 'Mo "a";Tu "b";We "c";Th "d"']
+    return [line(s, "A") for s in out]
+
+
+# ---- long sheets
+def long_sheets():
+    full = b'"' + b"c" * 4094 + b'"'
+    return [
+        line(full, "L"), line(full[:-1] + b'c"', "L"), line(b"Mo" + b" " * 4094, "L"), line(b"Mo" + b" " * 4095, "L"), line(b" " * 4096, "L"), line(b" " * 4097, "L"),
+        line(b" " * 4094 + b"Mo", "L"), line(b" " * 4095 + b"x", "L"), line(b" " * 4092 + b";;Mo", "L"), line(b'Mo;"' + b"c;" * 2044 + b'";Tu', "L"), line(b'Mo;"' + b"c;" * 2044 + b'"; Tu', "L"),
+        line(b"Mo," * 1365 + b"M", "S", 8192), line(b"Mo," * 1365 + b"Mo", "S", 8192), line(b"Mo;" * 1365 + b"x", "S", 8192), line(b"off;" * 511 + b"off", "S", 8192), line(b"off;" * 512 + b"off", "S", 8192), line(b"off;" * 1023 + b"off ", "S", 8192),
+        line(b"2020," * 200 + b"2021 " + b"10:00-12:00," * 100 + b"10:00+", "S", 8192),
+        line(b"x" * 4096, "L"), line(b"9" * 4096, "L"), line(b"Mo[" + b"1," * 2045 + b"2]", "L"), line(b"Mo[" + b"1," * 2045 + b"2", "L"), line(b'"' * 4096, "S"), line(b"24/7" + b"\xff" * 4092, "L"),
+    ]
+
+
+# ---- parts
+def exchanges():
+    """one part exchanged for bytes whose quotes pair and whose semicolons stand inside quotes"""
+    base = ['Mo;Tu;We', 'Mo "a";x;Tu "b" ', ' mo 10:00-12:00;"a;b": TU; 1899 ;off "c"', 'Mo "";;"d"', 'Mo;2021-2020, Tu;We "e", Th || Fr "f"', '10:00+;"g\\x01;"; Tu "h;i"; ']
+    new = ["", "x", "Th 10:00-12:00 off", '"n;o"', '"";"', ' "p": Fr, Sa || Su ', "1899", '\\x00"\\x01"', "Mo,Tu,We,Th,Fr,Sa,Su"]
+    cut = re.compile(r'(?:[^";]|"[^"]*")*')
+    out = []
+    for sheet in base:
+        parts = [m.group() for m in cut.finditer(sheet) if m.start() == 0 or sheet[m.start() - 1] == ";"]
+        assert ";".join(parts) == sheet, (sheet, parts)
+        for k in range(len(parts)):
+            for text in new:
+                if text.count('"') % 2 == 0:
+                    other = ";".join(parts[:k] + [text] + parts[k + 1:])
+                    out.append(line(sheet + "\\x09" + other, "X", 80, str(k)))
+                    if k == 1:
+                        out.append(line(other, "P", 80))
+        out.append(line(sheet, "A", 80))
+    return out
+
+
+def notes():
+    return [line(s, "N", 0) for s in ("", '"', 'Mo', '"abc"', 'Mo "a"', '"\\xff\\x00;|b"', 'Mo "abcdefgh"')]
+
+
+ORIGINS = {
+    "documents": lambda: sheets_of("documents.txt"), "specification": lambda: sheets_of("specification.txt"),
+    "transitions": transitions, "joints": joints, "order of pieces": triples, "ranges": ranges, "orders": orders, "bare days": bare_days, "marks": marks, "names": names, "refusals": refusals,
+    "tables": tables, "blanks": blanks, "odd bytes": odd_bytes, "quotes": quotes, "long sheets": long_sheets, "exchanges": exchanges, "notes": notes,
+}
+
+
+def main():
+    seen = set()
+    for name, make in ORIGINS.items():
+        lines = [x for x in make() if not (x in seen or seen.add(x))]
+        assert not any(b"\n" in x for x in lines)
+        if sys.argv[1:] == ["count"]:
+            print(len(lines), name)
+        else:
+            sys.stdout.buffer.write(b"".join(x + b"\n" for x in lines))
+    if sys.argv[1:] == ["count"]:
+        print(len(seen), "cases")
+
+
+if __name__ == "__main__":
+    main()
