@@ -1,0 +1,5 @@
+//! Stands for util/sign.rs, which is not among the papers.
+pub(crate) enum Sign {
+    Pos,
+    Neg,
+}
