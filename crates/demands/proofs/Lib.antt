@@ -8,3 +8,5 @@ pub mod WarnedCut
 pub mod Together
 pub mod TogetherCalls
 pub mod TogetherWords
+pub mod Opened
+pub mod Proved

@@ -4,4 +4,5 @@ pub mod Moves
 pub mod Turns
 pub mod Readings
 pub mod Noted
+pub mod Apart
 pub mod PartLaws
