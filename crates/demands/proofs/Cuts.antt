@@ -5,12 +5,11 @@ use mathlib.Core.Bool.{Bool, true, false}
 use mathlib.Core.Path.{_≡_, refl, sym, ap, _∙_}
 use native.Mathlib.Omega.{arith}
 use native.Mathlib.Decide.{decLt}
-use native.Mathlib.Nat.{zero-add, add-zero}
+use native.Mathlib.Nat.{zero-add}
 use lib.Dec.{eqb}
 use lib.ListN.{length, getD, length-append, List·getD-append}
-use lib.Seq.{getD-at, append-snoc}
+use lib.Seq.{getD-at}
 use borrow.Author.Tests.{eq-eqb, ne-eqb, lt-ltb}
-use Rattle.names.specs.Quotes.{insideOf}
 use Rattle.names.specs.Read.{Read, got, none, refused, Reader, follow, branch, nothing, pure, map, when, one, atEnd, _or_, _>>_}
 use Rattle.names.specs.Chain.{before, last, chain}
 use Rattle.names.specs.Texts.{byte}
@@ -22,7 +21,7 @@ use Rattle.rules.specs.declared.Next.{Next}
 use Rattle.rules.specs.declared.Next.the-variants.{Another, Finished}
 use Rattle.rules.proofs.Cut.{startMoves, ruleMoves, rule-local, commaBlank-local, bars-local}
 use Rattle.sheet.specs.Texts.{movedTo, parted, moreRules, noMore, rules}
-use Rattle.sheet.proofs.Moves.{rulesMove, rules-move, rules-are}
+use Rattle.sheet.proofs.Moves.{rules-are}
 
 -- ---- two readings: before a `;`, and where the text ends instead
 
@@ -200,13 +199,3 @@ module _ (s t : List ℕ) where
   pub rules-cut : (i : ℕ) → At (59 ∷ t) false s i → rules (s ++ 59 ∷ t) i ≡ joined (rules s i) (rules (s ++ 59 ∷ t) (suc (length s)))
   unfolding rules
   rules-cut i w = cut-from (suc (length s)) 0 i w (omega arith)
-
--- the rules of a text with a `;` outside quotes are those of the text before it and, moved, those of the text behind it
-pub rules-two : (s t : List ℕ) → insideOf s ≡ false → rules (s ++ 59 ∷ t) 0 ≡ joined (rules s 0) (moved rulesMove (suc (length s)) (rules t 0))
-rules-two s t h = rules-cut s t 0 (record { fits = omega arith; side = h }) ∙ ap (joined (rules s 0)) behind
-  where
-    size : length (s ++ (59 ∷ [])) ≡ suc (length s)
-    size = length-append s (59 ∷ []) ∙ omega arith
-
-    behind : rules (s ++ 59 ∷ t) (suc (length s)) ≡ moved rulesMove (suc (length s)) (rules t 0)
-    behind = rw (append-snoc, size, add-zero) at (rules-move (s ++ (59 ∷ [])) t 0)

@@ -2,13 +2,13 @@
 use Prim.Native.Nat.{ℕ, zero, suc, _+_, _-_, _≤_, _<_}
 use mathlib.Core.List.{List, [], _∷_, _++_}
 use mathlib.Core.Bool.{Bool, true, false, _&&_, not, true≢false, and-eq-true-iff}
-use mathlib.Core.Path.{_≡_, refl, sym, ap, _∙_, subst}
+use mathlib.Core.Path.{_≡_, refl, sym, ap, _∙_}
 use native.Mathlib.Omega.{arith}
 use native.Mathlib.Nat.{add-zero, add-suc}
 use native.Mathlib.Decide.{decLt}
 use lib.Dec.{eqb}
 use lib.ListN.{length, getD, take, drop, length-drop, List·getD-append}
-use lib.Seq.{length-take-le, split-at, take-append-le, take-append-add, drop-append-le, drop-append-add, drop-at, getD-append-add, getD-drop, take-add}
+use lib.Seq.{length-take-le, split-at, take-append-le, take-append-add, drop-append-le, drop-at, getD-append-add, getD-drop, take-add}
 use borrow.Author.Tests.{eqb-true, not-true}
 use Rattle.names.specs.Tests.{if_then_else_}
 use Rattle.names.specs.Quotes.{flips, insideOf}
@@ -88,10 +88,6 @@ part-same i (b ∷ s) = go (eqb b 59 && not i) refl (part-same (flips b i) s)
     go true e h = refl
     go false e h = rw (e, h)
 
--- it is a part and nothing else
-pub part-alone : (i : Bool) (s : List ℕ) → partIn i (take (partIn i s) s) ≡ length (take (partIn i s) s)
-part-alone i s = part-same i s ∙ sym (length-take-le (partIn i s) s (part-fits i s))
-
 -- no byte of a part is a `;` outside
 pub part-none : (i : Bool) (s : List ℕ) (k : ℕ) → k < partIn i s → (eqb (getD s k 0) 59 && not (turn (insideOf (take k s)) i)) ≡ false
 unfolding partIn insideOf
@@ -122,26 +118,9 @@ part-ended i (b ∷ s) h = go (eqb b 59 && not i) refl (part-ended (flips b i) s
         let w = f (omega arith) in
         (w .0, sym (turn-back (eqb b 34) (insideOf (take (partIn (flips b i) s) s)) i) ∙ w .1)
 
--- a text is a last part, or a part whose quotes pair, a `;` and a text
-pub data Divided : List ℕ → Type 0 where
-  last-part : (x : List ℕ) → partIn false x ≡ length x → Divided x
-  more-parts : (x t : List ℕ) → partIn false x ≡ length x → insideOf x ≡ false → Divided (x ++ 59 ∷ t)
-
 -- the quotes of a part that is not the last pair
 pub part-paired : (s : List ℕ) → partIn false s < length s → insideOf (take (partIn false s) s) ≡ false
 part-paired s h = sym (turn-none (insideOf (take (partIn false s) s))) ∙ (part-ended false s h .1)
-
--- it is followed by a `;` and a text
-pub part-split : (s : List ℕ) → partIn false s < length s → s ≡ take (partIn false s) s ++ 59 ∷ drop (suc (partIn false s)) s
-part-split s h = split-at s (partIn false s) 0 h ∙ ap (λ (b : ℕ). take (partIn false s) s ++ b ∷ drop (suc (partIn false s)) s) (part-ended false s h .0)
-
--- every text is so made
-pub divided : (s : List ℕ) → Divided s
-divided s = go (decLt (partIn false s) (length s))
-  where
-    go : Dec (partIn false s < length s) → Divided s
-    go (yes h) = subst Divided (sym (part-split s h)) (more-parts (take (partIn false s) s) (drop (suc (partIn false s)) s) (part-alone false s) (part-paired s h))
-    go (no h) = last-part s (omega (arith, part-fits false s))
 
 -- ---- where parts begin
 
@@ -211,14 +190,6 @@ pub end-fits : (s : List ℕ) (p : ℕ) → p ≤ length s → partEnd s p ≤ l
 unfolding partEnd
 end-fits s p h = omega (arith, part-fits false (drop p s), length-drop p s)
 
--- behind a `;`, parts end as in the text there
-pub end-later : (u t : List ℕ) (p : ℕ) → partEnd (u ++ 59 ∷ t) (suc (length u) + p) ≡ suc (length u) + partEnd t p
-unfolding partEnd
-end-later u t p =
-    let e : suc (length u) + p ≡ length u + suc p = omega arith in
-    let d : partIn false (drop (suc (length u) + p) (u ++ 59 ∷ t)) ≡ partIn false (drop p t) = rw e (ap (partIn false) (drop-append-add u (59 ∷ t) (suc p))) in
-    omega arith
-
 -- what stands behind the `;` that ends a part does not matter
 part-earlier : (i : Bool) (a b c : List ℕ) → partIn i (a ++ b) < length a → partIn i (a ++ c) ≡ partIn i (a ++ b)
 unfolding partIn
@@ -241,10 +212,6 @@ end-earlier a b c p h =
 pub part-bytes : (s : List ℕ) (p : ℕ) → p ≤ length s → drop p (take (partEnd s p) s) ≡ take (partIn false (drop p s)) (drop p s)
 unfolding partEnd
 part-bytes s p h = rw (take-add p (partIn false (drop p s)) s) (drop-at (take p s) (take (partIn false (drop p s)) (drop p s)) p (length-take-le p s h))
-
--- in the text up to a part's end it ends there
-pub end-alone : (s : List ℕ) (p : ℕ) → p ≤ length s → partEnd (take (partEnd s p) s) p ≡ partEnd s p
-end-alone s p h = part-begin (take (partEnd s p) s) p ∙ ap (λ (n : ℕ). p + n) (ap (partIn false) (part-bytes s p h) ∙ part-same false (drop p s)) ∙ sym (part-begin s p)
 
 -- what ends a part that is not the last is a `;`
 pub end-split : (s : List ℕ) (p : ℕ) → partEnd s p < length s → s ≡ take (partEnd s p) s ++ 59 ∷ drop (suc (partEnd s p)) s
