@@ -1,0 +1,91 @@
+//! The three calls of the static library, as include/lorukinde.h declares them. All that is unsafe in this crate stands here.
+//!
+//! What the library asks of its caller: no pointer is null, not even one with the length 0; each points to so many bytes, or to
+//! one number, that are initialised; what a call writes to overlaps nothing else that it is given. A call keeps no pointer,
+//! allocates nothing and changes nothing else, for any bytes and any numbers.
+use crate::record::Record;
+
+extern "C" {
+    fn lorukinde_read_sheet(
+        sheet: *const u8,
+        sheet_len: usize,
+        table: *mut u8,
+        table_len: usize,
+        place: *mut u32,
+        records: *mut u32,
+        warnings: *mut u32,
+    ) -> u32;
+
+    fn lorukinde_read_part(
+        sheet: *const u8,
+        sheet_len: usize,
+        begin: usize,
+        table: *mut u8,
+        table_len: usize,
+        place: *mut u32,
+        records: *mut u32,
+        warnings: *mut u32,
+        next: *mut u32,
+        last: *mut u32,
+    ) -> u32;
+
+    fn lorukinde_note(sheet_len: usize, note_len: usize, start: i32, length: i32, from: *mut usize, to: *mut usize) -> u32;
+}
+
+/// The numbers of a reading. `next` and `last` are a part's; for a sheet they stay 0.
+#[derive(Default)]
+pub struct Answer {
+    pub number: u32,
+    pub place: u32,
+    pub records: u32,
+    pub warnings: u32,
+    pub next: u32,
+    pub last: u32,
+}
+
+pub fn read_sheet(sheet: &[u8], table: &mut [Record]) -> Answer {
+    let mut a = Answer::default();
+    // Sound: a slice's pointer is never null, and its bytes are initialised. A Record is 64 bytes without padding, of which any
+    // values are a Record, so the table is size_of_val(table) bytes to be written at will. The table is lent to us alone, and
+    // the numbers are three fields of our own, so nothing written overlaps anything.
+    a.number = unsafe {
+        lorukinde_read_sheet(
+            sheet.as_ptr(),
+            sheet.len(),
+            table.as_mut_ptr().cast::<u8>(),
+            std::mem::size_of_val(table),
+            &mut a.place,
+            &mut a.records,
+            &mut a.warnings,
+        )
+    };
+    a
+}
+
+pub fn read_part(sheet: &[u8], begin: usize, table: &mut [Record]) -> Answer {
+    let mut a = Answer::default();
+    // Sound: as for a sheet, with five fields of our own. Any `begin` has an answer: it is compared, not followed.
+    a.number = unsafe {
+        lorukinde_read_part(
+            sheet.as_ptr(),
+            sheet.len(),
+            begin,
+            table.as_mut_ptr().cast::<u8>(),
+            std::mem::size_of_val(table),
+            &mut a.place,
+            &mut a.records,
+            &mut a.warnings,
+            &mut a.next,
+            &mut a.last,
+        )
+    };
+    a
+}
+
+/// Whether the note is a part of the sheet (else of the standing note), and from where to where.
+pub fn note(sheet_len: usize, note_len: usize, start: i32, length: i32) -> (bool, usize, usize) {
+    let (mut from, mut to) = (0, 0);
+    // Sound: numbers go in, and two numbers of our own are written; any numbers have an answer.
+    let of_sheet = unsafe { lorukinde_note(sheet_len, note_len, start, length, &mut from, &mut to) };
+    (of_sheet == 1, from, to)
+}

@@ -1,0 +1,78 @@
+//! Opening hours sheets, read by the proved static library of Lorukinde.
+//!
+//! ```
+//! let sheet = b"Mo-Fr 09:00-18:00; 2021-2020 off; Sa 10:00-16:00";
+//! for part in lorukinde::parts(sheet) {
+//!     match part.reading {
+//!         Ok(reading) => reading.rules().for_each(|rule| println!("{rule}")),
+//!         Err(refusal) => println!("not read: {refusal}"),
+//!     }
+//! }
+//! ```
+//!
+//! [`parts`] is what a job over many sheets wants: a slip loses its part and no other. [`read_sheet`] takes a sheet as a whole,
+//! and [`read_part`] a single part, both into a table that the caller lends and without allocating.
+//! The records' words, in [`Entry`], and the refusals' numbers, in [`Refusal`], are those of `include/lorukinde.h`.
+#![warn(missing_debug_implementations)]
+#![deny(unsafe_code)]
+
+#[allow(unsafe_code)]
+mod calls;
+mod entry;
+mod parts;
+mod reading;
+mod record;
+mod refusal;
+mod words;
+
+use std::borrow::Cow;
+
+pub use entry::{
+    Date, Dates, Day, Entry, Event, Head, Holiday, HolidayKind, Month, Months, Separator, Span, State, Steps, Time, ToWeekday,
+    Weekday, Weekdays,
+};
+pub use parts::{parts, Part, Parts};
+pub use reading::{Reading, Rule, Rules};
+pub use record::Record;
+pub use refusal::Refusal;
+
+/// A sheet longer than this is refused.
+pub const SHEET_BYTES: usize = 4096;
+
+/// Reads a whole sheet into the table. Accepted, only the records of the reading are written, at the table's start; refused,
+/// the table is as it was.
+pub fn read_sheet<'a>(sheet: &'a [u8], table: &'a mut [Record]) -> Result<Reading<'a>, Refusal> {
+    outcome(sheet, calls::read_sheet(sheet, table), table)
+}
+
+/// The answer for one part.
+#[derive(Clone, Debug, PartialEq, Eq)]
+pub struct PartReading<'a> {
+    pub reading: Result<Reading<'a>, Refusal>,
+    /// Where the next part begins; None if this was the last, or if the sheet is too long or no part begins at the given place.
+    pub next: Option<usize>,
+}
+
+/// Reads the part of a sheet that begins at a place, the first at 0, into the table, which is written to as by [`read_sheet`].
+/// Places count from the sheet's first byte.
+pub fn read_part<'a>(sheet: &'a [u8], begin: usize, table: &'a mut [Record]) -> PartReading<'a> {
+    let answer = calls::read_part(sheet, begin, table);
+    let next = (answer.last == 0).then_some(answer.next as usize);
+    PartReading { reading: outcome(sheet, answer, table), next }
+}
+
+/// The note shown for a rule: its comment out of the sheet, or the standing note, whole, where it has none. For a head that
+/// does not fit the sheet it is empty. It is the lent bytes, no copy.
+pub fn note<'a>(sheet: &'a [u8], standing: &'a [u8], head: &Head) -> &'a [u8] {
+    let (of_sheet, from, to) = calls::note(sheet.len(), standing.len(), head.comment_start, head.comment_length);
+    let whole = if of_sheet { sheet } else { standing };
+    &whole[from..to]
+}
+
+fn outcome<'a>(sheet: &'a [u8], answer: calls::Answer, table: &'a [Record]) -> Result<Reading<'a>, Refusal> {
+    if answer.number != 0 {
+        return Err(Refusal { number: answer.number, place: answer.place as usize });
+    }
+    let records = &table[..answer.records as usize];
+    Ok(Reading { sheet, records: Cow::Borrowed(records), warnings: answer.warnings })
+}

@@ -1,0 +1,66 @@
+//! Why a sheet, or a part of it, is refused.
+use std::error::Error;
+use std::fmt;
+
+/// A refusal: its number, and its place as bytes from the start of the sheet. For 3 to 9 that is where the rule at fault begins
+/// (behind the blanks before it), for 10 where the sheet or the part begins, for 1 and 2 it is 0.
+///
+/// Its `Display` says in plain words what is wrong, for the one who wrote the sheet.
+#[derive(Clone, Copy, Debug, PartialEq, Eq, Hash)]
+pub struct Refusal {
+    pub number: u32,
+    pub place: usize,
+}
+
+impl Refusal {
+    pub const TOO_LONG: u32 = 1;
+    pub const NO_PART: u32 = 2;
+    pub const NO_SHAPE: u32 = 3;
+    pub const RANGE: u32 = 4;
+    pub const WEEK_STEP: u32 = 5;
+    pub const YEARS_INVERTED: u32 = 6;
+    pub const WEEKS_INVERTED: u32 = 7;
+    pub const POINT_IN_TIME: u32 = 8;
+    pub const EASTER_DAY: u32 = 9;
+    pub const NO_ROOM: u32 = 10;
+}
+
+/// Where a rule begins, so that nobody has to ask whether bytes are counted from 0 or from 1.
+struct RuleAt(usize);
+
+impl fmt::Display for RuleAt {
+    fn fmt(&self, f: &mut fmt::Formatter<'_>) -> fmt::Result {
+        match self.0 {
+            0 => write!(f, "the rule at the start of the sheet"),
+            1 => write!(f, "the rule that begins 1 byte into the sheet"),
+            n => write!(f, "the rule that begins {n} bytes into the sheet"),
+        }
+    }
+}
+
+impl fmt::Display for Refusal {
+    fn fmt(&self, f: &mut fmt::Formatter<'_>) -> fmt::Result {
+        let rule = RuleAt(self.place);
+        match self.number {
+            Refusal::TOO_LONG => write!(f, "the sheet is longer than 4,096 bytes"),
+            Refusal::NO_PART => write!(f, "no part of the sheet begins at the place that was asked for"),
+            Refusal::NO_SHAPE => write!(f, "{rule} cannot be read: something in it is missing, misspelled or out of order"),
+            Refusal::RANGE => {
+                write!(f, "a number in {rule} is outside what is allowed there, as a day 32, a week 54 or a minute 60 would be")
+            }
+            Refusal::WEEK_STEP => write!(f, "the weeks in {rule} go in steps of more than 255"),
+            Refusal::YEARS_INVERTED => write!(f, "the years in {rule} run backwards: the first year is after the last"),
+            Refusal::WEEKS_INVERTED => write!(f, "the weeks in {rule} run backwards: the first week is after the last"),
+            Refusal::POINT_IN_TIME => {
+                write!(f, "{rule} names a single time, where it should say from when to when (10:00-12:00, or 10:00+)")
+            }
+            Refusal::EASTER_DAY => {
+                write!(f, "{rule} ends a span from easter with a day but no month (write easter-Apr 5, not easter-5)")
+            }
+            Refusal::NO_ROOM => write!(f, "everything can be read, but it has more records than there is room for in the table"),
+            other => write!(f, "{rule} is refused with the number {other}, which this version has no words for"),
+        }
+    }
+}
+
+impl Error for Refusal {}

@@ -1,0 +1,186 @@
+//! The calls at their edges: lengths, places, tables, notes; and what a refusal says.
+mod common;
+use common::{mark, marked, words};
+use lorukinde::{note, parts, read_part, read_sheet, Entry, Head, Record, Refusal, Separator, State};
+
+fn refusal(number: u32, place: usize) -> Refusal {
+    Refusal { number, place }
+}
+
+#[test]
+fn too_long() {
+    let comment = |n: usize| format!("\"{}\"", "c".repeat(n - 2)).into_bytes();
+    let mut table = marked(3);
+    let reading = read_sheet(&comment(4096), &mut table).map(|r| r.records().to_vec());
+    assert_eq!(reading, Ok(vec![Record::from_words(words([1, 0, 0, 1, 4094]))]));
+
+    let long = comment(4097);
+    let mut table = marked(3);
+    assert_eq!(read_sheet(&long, &mut table), Err(refusal(1, 0)));
+    for begin in [0, 1, 4097, usize::MAX] {
+        let part = read_part(&long, begin, &mut table);
+        assert_eq!((part.reading, part.next), (Err(refusal(1, 0)), None));
+    }
+    assert_eq!(table, marked(3));
+    let all: Vec<_> = parts(&long).map(|part| (part.range, part.reading)).collect();
+    assert_eq!(all, [(0..4097, Err(refusal(1, 0)))]);
+}
+
+#[test]
+fn no_part_begins_there() {
+    let sheet = b"Mo \"a;b\"; Tu";
+    let mut table = marked(3);
+    for begin in (0..20).chain([usize::MAX - 1, usize::MAX]) {
+        let part = read_part(sheet, begin, &mut table);
+        if begin == 0 || begin == 9 {
+            assert!(part.reading.is_ok(), "{begin}");
+            assert_eq!(part.next, (begin == 0).then_some(9));
+        } else {
+            assert_eq!((part.reading, part.next), (Err(refusal(2, 0)), None), "{begin}");
+        }
+    }
+}
+
+#[test]
+fn tables_of_every_size() {
+    for room in 0..6 {
+        let mut table = marked(room);
+        let reading = read_sheet(b" Mo;Tu", &mut table).map(|r| r.records().len());
+        assert_eq!(reading, if room < 4 { Err(refusal(10, 0)) } else { Ok(4) });
+        let written = if room < 4 { 0 } else { 4 };
+        assert!(table[..written].iter().all(|r| *r != mark()) && table[written..].iter().all(|r| *r == mark()), "{room}");
+
+        // Each part has the whole table, and its refusal has the place where the part begins.
+        let mut table = marked(room);
+        let part = read_part(b" Mo; Tu", 4, &mut table);
+        assert_eq!(part.reading.map(|r| r.records().len()), if room < 2 { Err(refusal(10, 4)) } else { Ok(2) });
+        assert!(table[if room < 2 { 0 } else { 2 }..].iter().all(|r| *r == mark()), "{room}");
+    }
+}
+
+#[test]
+fn parts_always_have_room() {
+    let longest = b"Mo;".repeat(1365);
+    let longest = &longest[..4094];
+    let mut table = marked(2731);
+    assert_eq!(read_sheet(longest, &mut table).map(|r| r.records().len()), Ok(2730));
+    assert_eq!(table[2730], mark());
+    assert_eq!(parts(longest).filter(|part| part.reading.as_ref().map(|r| r.records().len()) == Ok(2)).count(), 1365);
+    let weeks = format!("week 1{}", ",2".repeat(2045));
+    assert_eq!(weeks.len(), 4096);
+    assert_eq!(parts(weeks.as_bytes()).map(|part| part.reading.map(|r| r.records().len())).collect::<Vec<_>>(), [Ok(2047)]);
+}
+
+/// The memory beside the lent table, and inside it behind the records, keeps every byte.
+#[test]
+fn nothing_else_is_written() {
+    let mut around = marked(9);
+    let got = read_sheet(b"off", &mut around[3..6]).map(|r| r.records().to_vec());
+    assert_eq!(got, Ok(vec![Record::from_words(words([1, 0, 1]))]));
+    assert!(around.iter().enumerate().all(|(i, r)| (i == 3) == (*r != mark())));
+}
+
+#[test]
+fn empty_slices() {
+    assert_eq!(read_sheet(&[], &mut []), Err(refusal(3, 0)));
+    assert_eq!(read_sheet(b"off", &mut []), Err(refusal(10, 0)));
+    let part = read_part(&[], 0, &mut []);
+    assert_eq!((part.reading, part.next), (Err(refusal(3, 0)), None));
+    assert_eq!(read_part(&[], 1, &mut []).reading, Err(refusal(2, 0)));
+    assert_eq!(parts(&[]).map(|part| (part.range, part.reading)).collect::<Vec<_>>(), [(0..0, Err(refusal(3, 0)))]);
+    assert_eq!(note(&[], &[], &head(0, 0)), b"");
+}
+
+fn head(comment_start: i32, comment_length: i32) -> Head {
+    Head { separator: Separator::Normal, state: State::Open, comment_start, comment_length, items: 0 }
+}
+
+#[test]
+fn notes() {
+    let sheet = b"Mo \"by appointment\"; Tu; We \"wave pool; sauna\", Th";
+    let notes: Vec<Vec<u8>> = parts(sheet)
+        .flat_map(|part| part.reading.unwrap().rules().map(|rule| rule.note(b"ask").to_vec()).collect::<Vec<_>>())
+        .collect();
+    assert_eq!(notes, [&b"by appointment"[..], b"ask", b"wave pool; sauna", b"ask"]);
+
+    let mut table = marked(9);
+    let reading = read_sheet(sheet, &mut table).unwrap();
+    let comments: Vec<_> = reading.rules().map(|rule| rule.comment()).collect();
+    assert_eq!(comments, [Some(&b"by appointment"[..]), None, Some(b"wave pool; sauna"), None]);
+}
+
+/// A note is the lent bytes themselves; numbers outside the sheet give the empty part at the standing note's start.
+#[test]
+fn notes_are_lent_bytes() {
+    let (sheet, standing) = (&b"Mo \"abc\""[..], &b"standing"[..]);
+    let found = note(sheet, standing, &head(4, 3));
+    assert_eq!((found, found.as_ptr()), (&sheet[4..7], sheet[4..].as_ptr()));
+    let found = note(sheet, standing, &head(i32::MAX, 0));
+    assert_eq!((found, found.as_ptr()), (standing, standing.as_ptr()));
+    for (start, length) in [(8, 1), (-1, 2), (0, -1), (1, i32::MAX), (i32::MIN, i32::MIN), (i32::MAX, i32::MAX)] {
+        let found = note(sheet, standing, &head(start, length));
+        assert_eq!((found.len(), found.as_ptr()), (0, standing.as_ptr()), "{start} {length}");
+    }
+}
+
+#[test]
+fn rules_and_items() {
+    let mut table = marked(16);
+    let reading = read_sheet(b"mo,PH 10:00-12:00,14:00+ off \"c\", 24/7 || OFF", &mut table).unwrap();
+    assert_eq!(reading.warnings(), 2);
+    let rules: Vec<_> = reading.rules().collect();
+    let heads: Vec<_> = rules.iter().map(|rule| (rule.head.separator, rule.head.state, rule.items().count())).collect();
+    assert_eq!(
+        heads,
+        [(Separator::Normal, State::Closed, 4), (Separator::Additional, State::Open, 0), (Separator::Fallback, State::Closed, 0)]
+    );
+    assert_eq!(rules.iter().map(|rule| 1 + rule.records().len()).sum::<usize>(), reading.records().len());
+    assert_eq!(reading.entries().filter(|entry| matches!(entry, Entry::Head(_))).count(), 3);
+    assert_eq!(reading.entries().filter(|entry| matches!(entry, Entry::Raw(_))).count(), 0);
+}
+
+#[test]
+fn refusals_in_plain_words() {
+    let said: Vec<String> = (1..=10).map(|number| refusal(number, 12).to_string()).collect();
+    for (i, text) in said.iter().enumerate() {
+        let names_the_rule = text.contains("the rule that begins 12 bytes into the sheet");
+        assert_eq!(names_the_rule, (3..=9).contains(&(i + 1)), "{text}");
+        assert!(!said[..i].contains(text), "{text}");
+    }
+    assert_eq!(said[0], "the sheet is longer than 4,096 bytes");
+    assert!(refusal(3, 0).to_string().starts_with("the rule at the start of the sheet cannot be read"));
+    assert!(refusal(8, 1).to_string().contains("1 byte into"));
+    assert!(refusal(11, 1).to_string().contains("the number 11"));
+    let error: Box<dyn std::error::Error + Send + Sync> = Box::new(refusal(6, 0));
+    assert!(error.to_string().contains("run backwards"));
+}
+
+/// Any words at all have an entry and can be shown; those that no reading writes come back as they are.
+#[test]
+fn any_words_can_be_decoded() {
+    let odd = [i32::MIN, -8, -1, 0, 1, 3, 8, 13, 32, 256, 2880, i32::MAX];
+    for kind in -1..=10 {
+        for (i, a) in odd.iter().enumerate() {
+            for b in &odd[i % 3..] {
+                let mut all = [*a; 16];
+                all[0] = kind;
+                all.iter_mut().skip(2).step_by(2).for_each(|word| *word = *b);
+                let entry = Record::from_words(all).entry();
+                assert!(!entry.to_string().is_empty());
+                assert!(matches!(entry, Entry::Raw(same) if same == all) || (1..=8).contains(&kind));
+            }
+        }
+    }
+    let late = words([8, 0, i32::MAX, 0, i32::MAX, -1, 0]);
+    assert_eq!(Record::from_words(late).entry(), Entry::Raw(late));
+    assert_eq!(Record::default().entry(), Entry::Raw([0; 16]));
+    assert_eq!(std::mem::size_of::<Record>(), 64);
+}
+
+#[test]
+fn from_several_threads() {
+    let threads: Vec<_> = (0..4)
+        .map(|_| std::thread::spawn(|| (0..50).all(|_| parts(b"Mo;x;Tu").filter(|part| part.reading.is_ok()).count() == 2)))
+        .collect();
+    assert!(threads.into_iter().all(|thread| thread.join().unwrap()));
+}

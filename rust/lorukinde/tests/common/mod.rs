@@ -1,0 +1,88 @@
+//! What the tests share: a table with marked bytes, and answers as the programs of the repository write them.
+#![allow(dead_code)] // each test file takes what it needs
+use lorukinde::{read_part, read_sheet, Reading, Record, Refusal};
+
+/// Words that no reading writes, to see what a reading has left alone.
+pub fn mark() -> Record {
+    Record::from_words([-0x5a5a_5a5b; 16])
+}
+
+pub fn marked(room: usize) -> Vec<Record> {
+    vec![mark(); room]
+}
+
+/// 16 words of which the first are given and the others 0.
+pub fn words<const N: usize>(first: [i32; N]) -> [i32; 16] {
+    let mut all = [0; 16];
+    all[..N].copy_from_slice(&first);
+    all
+}
+
+fn numbers(some: impl IntoIterator<Item = i64>) -> Vec<u8> {
+    let some: Vec<String> = some.into_iter().map(|n| n.to_string()).collect();
+    some.join(" ").into_bytes()
+}
+
+/// The answer as numbers, as far as sheets and parts have the same: number, place, records, warnings.
+fn four(reading: &Result<Reading<'_>, Refusal>) -> Vec<i64> {
+    match reading {
+        Ok(r) => vec![0, 0, r.records().len() as i64, r.warnings().into()],
+        Err(r) => vec![r.number.into(), r.place as i64, 0, 0],
+    }
+}
+
+fn record_lines(reading: &Result<Reading<'_>, Refusal>) -> Vec<Vec<u8>> {
+    let records = reading.as_ref().map_or(&[][..], Reading::records);
+    records.iter().map(|r| numbers(r.words().map(i64::from))).collect()
+}
+
+/// Nothing but the records of an accepted reading may have changed.
+fn hold_rest(table: &[Record], records: usize, sheet: &[u8]) {
+    assert!(table[records..].iter().all(|r| *r == mark()), "words outside the records of {:?}", String::from_utf8_lossy(sheet));
+}
+
+/// A sheet's answer as lines: four numbers, then each record.
+pub fn sheet_lines(sheet: &[u8], room: usize) -> Vec<Vec<u8>> {
+    let mut table = marked(room);
+    let reading = read_sheet(sheet, &mut table);
+    let answer = four(&reading);
+    let mut lines = vec![numbers(answer.clone())];
+    lines.extend(record_lines(&reading));
+    hold_rest(&table, answer[2] as usize, sheet);
+    lines
+}
+
+/// The parts' answers as lines, by `next` from 0 on: six numbers, then each record.
+pub fn part_lines(sheet: &[u8], room: usize) -> Vec<Vec<u8>> {
+    let mut lines = Vec::new();
+    let mut begin = Some(0);
+    while let Some(at) = begin {
+        let mut table = marked(room);
+        let part = read_part(sheet, at, &mut table);
+        let mut answer = four(&part.reading);
+        answer.extend([part.next.unwrap_or(0) as i64, part.next.is_none().into()]);
+        lines.push(numbers(answer.clone()));
+        lines.extend(record_lines(&part.reading));
+        begin = part.next;
+        hold_rest(&table, answer[2] as usize, sheet);
+    }
+    lines
+}
+
+/// The places, up to one behind the end, where a part begins.
+pub fn place_line(sheet: &[u8], room: usize) -> Vec<u8> {
+    let mut table = marked(room);
+    let mut begins = |at: &usize| match read_part(sheet, *at, &mut table).reading {
+        Err(refusal) => refusal.number != Refusal::NO_PART,
+        Ok(_) => true,
+    };
+    let places = (0..sheet.len() + 2).filter(&mut begins).map(|at| format!(" {at}"));
+    format!("B{}", places.collect::<String>()).into_bytes()
+}
+
+/// A file of the repository, its lines.
+pub fn lines_of(path: &str) -> std::io::Result<Vec<Vec<u8>>> {
+    let text = std::fs::read(format!("{}/../../{path}", env!("CARGO_MANIFEST_DIR")))?;
+    let text = text.strip_suffix(b"\n").unwrap_or(&text);
+    Ok(text.split(|byte| *byte == b'\n').map(<[u8]>::to_vec).collect())
+}

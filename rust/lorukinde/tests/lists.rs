@@ -1,0 +1,179 @@
+//! Long lists of sheets with fixed answers, and what parts and sheets owe each other on random ones.
+mod common;
+use common::{lines_of, part_lines, place_line, sheet_lines};
+use lorukinde::{note, parts, read_part, read_sheet, Entry, Head, Record, Refusal, Separator, State};
+
+/// The cases of crates/cases with the answers of the repository's second reader. A case: four digits for the words of the table,
+/// a letter, a blank or digit, a sheet. S is the sheet, P its parts and their places, A both, L both without the places,
+/// X two sheets that differ in one part, N notes. The expected answers repeat each case before its answer.
+#[test]
+fn the_repositorys_cases() {
+    let cases = lines_of("crates/cases/stdin").unwrap();
+    let mut expected = lines_of("crates/cases/stdout").unwrap().into_iter();
+    for case in &cases {
+        let digits: String = case[..4].iter().map(|byte| char::from(*byte)).collect();
+        let room = digits.parse::<usize>().unwrap() / 16;
+        let (mode, sheet) = (case[4], &case[6..]);
+        let mut lines = vec![case.clone()];
+        match mode {
+            b'X' => lines.push(exchange_line(sheet, usize::from(case[5] - b'0'), room)),
+            b'N' => lines.extend(note_lines(sheet)),
+            _ => {
+                if b"SAL".contains(&mode) {
+                    lines.extend(sheet_lines(sheet, room));
+                }
+                if b"PAL".contains(&mode) {
+                    lines.extend(part_lines(sheet, room));
+                }
+                if b"PA".contains(&mode) {
+                    lines.push(place_line(sheet, room));
+                }
+            }
+        }
+        let expected: Vec<_> = expected.by_ref().take(lines.len()).collect();
+        assert_eq!(lines, expected, "{}", String::from_utf8_lossy(case));
+    }
+    assert_eq!(expected.next(), None);
+    assert!(cases.len() > 3000);
+    println!("{} cases", cases.len());
+}
+
+/// For some starts and lengths the note, and a bar behind it; one line for each start.
+fn note_lines(sheet: &[u8]) -> Vec<Vec<u8>> {
+    let numbers = [i32::MIN, -1, 0, 1, 3, 5, 6, i32::MAX];
+    let one = |comment_start, comment_length| {
+        let head = Head { separator: Separator::Normal, state: State::Open, comment_start, comment_length, items: 0 };
+        [note(sheet, b"standing", &head), b"|"].concat()
+    };
+    numbers.iter().map(|start| numbers.iter().flat_map(|length| one(*start, *length)).collect()).collect()
+}
+
+type SaidRule = (Separator, State, Option<Vec<u8>>, Vec<Record>);
+
+/// All that a part's reading says, with places counted from the part's beginning and comments instead of their places.
+#[derive(PartialEq, Debug)]
+struct Said {
+    refusal: Option<(u32, usize)>,
+    rules: Vec<SaidRule>,
+    warnings: u32,
+    next: Option<usize>,
+}
+
+fn all_said(sheet: &[u8], room: usize) -> Vec<Said> {
+    let mut all = Vec::new();
+    let mut begin = Some(0);
+    while let Some(at) = begin {
+        let mut table = common::marked(room);
+        let part = read_part(sheet, at, &mut table);
+        begin = part.next;
+        let reading = part.reading.as_ref();
+        all.push(Said {
+            refusal: reading.err().map(|r| (r.number, r.place - at)),
+            rules: reading.map_or(Vec::new(), |r| {
+                r.rules()
+                    .map(|x| (x.head.separator, x.head.state, x.comment().map(<[u8]>::to_vec), x.records().to_vec()))
+                    .collect()
+            }),
+            warnings: reading.map_or(0, |r| r.warnings()),
+            next: part.next.map(|next| next - at),
+        });
+    }
+    all
+}
+
+/// Two sheets with byte 9 between them, of which part `k` differs: how many of the others are read alike, and how many not.
+fn exchange_line(two: &[u8], k: usize, room: usize) -> Vec<u8> {
+    let tab = two.iter().position(|byte| *byte == b'\t').unwrap();
+    let (one, other) = (all_said(&two[..tab], room), all_said(&two[tab + 1..], room));
+    let others = one.iter().zip(&other).enumerate().filter(|(i, _)| *i != k);
+    let (alike, not): (Vec<_>, Vec<_>) = others.partition(|(_, (a, b))| a == b);
+    format!("X {} {}", alike.len(), not.len()).into_bytes()
+}
+
+/// The oracle's fixed list, where it is there: sheets, one a line, and for each the four numbers of its answer and its records
+/// (a table of 512), as the program writes them. The first line of both files says how they were made.
+#[test]
+fn the_oracles_list() {
+    let (sheets, expected) = match (lines_of("tools/oracle/sample.txt"), lines_of("tools/oracle/sample.out")) {
+        (Ok(sheets), Ok(expected)) => (sheets, expected),
+        _ => return println!("tools/oracle has no sample.txt with sample.out: not run"),
+    };
+    let mut expected = expected.into_iter().skip(1);
+    for sheet in &sheets[1..] {
+        let lines = sheet_lines(sheet, 512);
+        let expected: Vec<_> = expected.by_ref().take(lines.len()).collect();
+        assert_eq!(lines, expected, "{}", String::from_utf8_lossy(sheet));
+    }
+    assert_eq!(expected.next(), None);
+    println!("{} sheets", sheets.len() - 1);
+}
+
+/// Random sheets: the whole is accepted where every part is, with their records one behind the other, and else refused as the
+/// first refused part is. No record stays without a meaning, and every rule can be said.
+#[test]
+fn parts_make_the_sheet() {
+    const PIECES: [&str; 34] = [
+        "Mo",
+        "tu-Th",
+        "Fr[3-1,2]",
+        "PH",
+        "SH -1 day",
+        "10:00-12:00",
+        "10:00+",
+        "(sunset-1:00)-26:00",
+        "10:00",
+        "24/7",
+        "2020",
+        "2021-2020",
+        "1899",
+        "Jan",
+        "2020 Dec 25-05",
+        "easter-05",
+        "easter +1 day",
+        "week 1-5/2",
+        "week 5-1",
+        "off",
+        "OPEN",
+        "unknown",
+        "\"c\"",
+        "\"a;b\"",
+        "\"",
+        ";",
+        ";",
+        "; ",
+        ", ",
+        ",",
+        " || ",
+        ": ",
+        "x",
+        "",
+    ];
+    let mut state = 1u64;
+    let mut random = |below: usize| {
+        state = state.wrapping_mul(6364136223846793005).wrapping_add(1442695040888963407);
+        (state >> 33) as usize % below
+    };
+    let mut accepted = 0;
+    for _ in 0..4000 {
+        let mut sheet = String::new();
+        for _ in 0..random(8) {
+            sheet.push_str(PIECES[random(PIECES.len())]);
+            sheet.push_str([" ", " ", "", ";"][random(4)]);
+        }
+        let read: Vec<_> = parts(sheet.as_bytes()).map(|part| part.reading).collect();
+        let together: Result<Vec<_>, Refusal> = read.iter().cloned().collect();
+        let together = together.map(|all| {
+            let records: Vec<Record> = all.iter().flat_map(|r| r.records().to_vec()).collect();
+            (records, all.iter().map(|r| r.warnings()).sum::<u32>())
+        });
+        let mut table = common::marked(64);
+        let whole = read_sheet(sheet.as_bytes(), &mut table);
+        assert_eq!(whole.clone().map(|r| (r.records().to_vec(), r.warnings())), together, "{sheet:?}");
+        if let Ok(whole) = whole {
+            accepted += 1;
+            assert!(whole.entries().all(|entry| !matches!(entry, Entry::Raw(_))), "{sheet:?}");
+            assert!(whole.rules().all(|rule| !rule.to_string().is_empty()));
+        }
+    }
+    assert!(accepted > 100, "{accepted}");
+}
