@@ -1,11 +1,12 @@
 #!/usr/bin/env python3
-"""Writes the cases of crates/cases: the sheets of tools/documents.txt and tools/specification.txt, and the systematic ones made here.
+"""Writes the cases of crates/cases: the sheets of tools/documents.txt and tools/specification.txt, the systematic ones made here, and tools/oracle/sample.txt.
 
     python3 tools/make_cases.py > crates/cases/stdin
-    python3 tools/reference.py cases crates/cases/stdin > crates/cases/stdout
+    python3 tools/oracle/replay.py crates/cases/stdin > crates/cases/stdout      at most 1 MiB, where rt cuts what a program writes
     python3 tools/make_cases.py count         how many of each origin
 
-documents.txt has the sheets of the rules and of their readings, specification.txt examples of the OpenStreetMap wiki's pages on opening hours, as far as they are remembered.
+documents.txt has the sheets of the rules and of their readings, specification.txt examples of the OpenStreetMap wiki's pages on opening hours, as far as they are remembered, sample.txt sheets whose answers are
+the Rust's own (tools/oracle/README.md).
 A case's form is in reference.py, `case`. A line cannot hold byte 10 (three sheets of the readings have it, and are left out); every other byte stands in some sheet.
 """
 import os
@@ -192,10 +193,17 @@ def notes():
     return [line(s, "N", 0) for s in ("", '"', 'Mo', '"abc"', 'Mo "a"', '"\\xff\\x00;|b"', 'Mo "abcdefgh"')]
 
 
+# ---- the Rust's own answers
+def sample():
+    """the sheets of the sample; its first line says how it was made"""
+    return [line(s, "S", 8192) for s in open(os.path.join(TOOLS, "oracle", "sample.txt"), "rb").read().split(b"\n")[1:-1]]
+
+
 ORIGINS = {
     "documents": lambda: sheets_of("documents.txt"), "specification": lambda: sheets_of("specification.txt"),
     "transitions": transitions, "joints": joints, "order of pieces": triples, "ranges": ranges, "orders": orders, "bare days": bare_days, "marks": marks, "names": names, "refusals": refusals,
     "tables": tables, "blanks": blanks, "odd bytes": odd_bytes, "quotes": quotes, "long sheets": long_sheets, "exchanges": exchanges, "notes": notes,
+    "the Rust's answers": sample,
 }
 
 

@@ -1,12 +1,13 @@
 #!/usr/bin/env python3
 """Reads many sheets by the Rust and by ours, and says where they differ.
 
-    compare.py [--seed S] [--count N] [--sheets FILE] [--digits] [--oracle PROGRAM] [--ours COMMAND]
+    compare.py [--seed S] [--count N] [--sheets FILE] [--digits] [--oracle PROGRAM] [--ours COMMAND] [--whole]
 
 --ours is any command that takes a file of sheets, one a line, and writes for each four numbers (number, place, records, warnings) and then
 its records, 16 words a line. Every sheet counts as agreed, as agreed after a listed difference (docs/DIFFERENCES.md), or as unlisted; the last
 are printed, and then the exit code is 1. A listed difference is foretold from the sheet and our answer, and then the Rust's answer must be that.
---digits takes oracle-digits, where only the builders judge numbers.
+--digits takes oracle-digits, where only the builders judge numbers. --whole also holds our whole answer, with places, comment starts and what
+the Rust cannot be asked, to tools/reference.py, and says every difference. Each side reads all sheets in one process.
 """
 import argparse
 import collections
@@ -154,11 +155,10 @@ def rust_answer(line):
     return NUMBER.get(kind, NUMBER.get(kind.split(b" ")[0], kind.decode())), 0
 
 
-def our_answers(text, n):
-    lines = iter(text.split(b"\n"))
-    for _ in range(n):
-        number, place, records, warnings = map(int, next(lines).split())
-        yield number, list(itertools.islice(lines, records)), warnings
+def our_answer(lines):
+    """the next answer, as its lines"""
+    head = next(lines)
+    return [head] + list(itertools.islice(lines, int(head.split()[2])))
 
 
 class Tally:
@@ -173,9 +173,20 @@ class Tally:
         self.kinds = collections.Counter()
         self.warned = 0
         self.seen = set()
+        self.held = self.otherwise = 0  # against tools/reference.py
 
-    def take(self, s, line, ours):
-        number, records, warnings = ours
+    def hold(self, s, lines):
+        """our whole answer against that of tools/reference.py"""
+        self.held += 1
+        said = [x.encode() for x in plain.sheet_lines(s, 8192)]
+        if lines != said:
+            self.otherwise += 1
+            sys.stdout.buffer.write(b"NOT AS THE REFERENCE  %r\n  reference: %r\n  ours: %r\n" % (s, said, lines))
+
+    def take(self, s, line, lines):
+        number, _, _, warnings = map(int, lines[0].split())
+        records = lines[1:]
+        ours = number, records, warnings
         names = []
         if line == b"refused\tnot UTF-8" or number == 1 and len(s) > 4096:  # outside the domain of equality
             self.counts["not compared: " + ("over 4,096 bytes" if number == 1 else "not UTF-8, which the Rust cannot be given")] += 1
@@ -205,19 +216,26 @@ class Tally:
         for name, n in sorted(self.counts.items()):
             if name.startswith("not compared"):
                 print(f"{n:9} {name}")
+        if self.held:
+            print(f"{self.held:9} whole answers held to tools/reference.py, {self.otherwise} of them different")
         print("our numbers:", ", ".join(f"{k}: {n}" for k, n in sorted(self.numbers.items())))
         print("agreed exactly, by our number:", ", ".join(f"{k}: {n}" for k, n in sorted(self.exact.items())))
         print("our records by kind:", ", ".join(f"{k}: {n}" for k, n in sorted(self.kinds.items())))
 
 
-def batches(args):
+def all_sheets(args):
     if args.sheets:
-        source = (line.rstrip(b"\n") for line in open(args.sheets, "rb"))
-    else:
-        made = sheets.Sheets(args.seed)
-        source = itertools.chain((e.encode() for e in sheets.edges()), (made.sheet() for _ in range(args.count)))
-    while batch := list(itertools.islice(source, 20000)):
-        yield batch
+        return (line.rstrip(b"\n") for line in open(args.sheets, "rb"))
+    made = sheets.Sheets(args.seed)
+    return itertools.chain((e.encode() for e in sheets.edges()), (made.sheet() for _ in range(args.count)))
+
+
+def said(process):
+    """the lines that a process writes; all of them are to be read"""
+    for line in process.stdout:
+        yield line.rstrip(b"\n")
+    if process.wait():
+        sys.exit(f"stopped with {process.returncode}: {shlex.join(process.args)}")
 
 
 def main():
@@ -228,23 +246,26 @@ def main():
     p.add_argument("--digits", action="store_true", help="the oracle whose grammar takes numbers of any value")
     p.add_argument("--oracle")
     p.add_argument("--ours", default=shlex.join([sys.executable, os.path.join(HERE, "ours.py")]))
+    p.add_argument("--whole", action="store_true", help="hold our whole answers to tools/reference.py too")
     args = p.parse_args()
     oracle = args.oracle or os.path.join(ROOT, "target", "oracle", "oracle-digits" if args.digits else "oracle")
     tally = Tally(args.digits)
     with tempfile.TemporaryDirectory() as folder:
         path = os.path.join(folder, "sheets")
-        for batch in batches(args):
-            with open(path, "wb") as f:
-                f.write(b"".join(s + b"\n" for s in batch))
-            rust = subprocess.Popen([oracle, path], stdout=subprocess.PIPE)
-            ours = subprocess.check_output([*shlex.split(args.ours), path])
-            lines = rust.communicate()[0].split(b"\n")[:-1]
-            if rust.returncode or len(lines) != len(batch):
-                sys.exit("the oracle stopped")
-            for s, line, answer in zip(batch, lines, our_answers(ours, len(batch))):
-                tally.take(s, line, answer)
+        with open(path, "wb") as f:
+            f.writelines(s + b"\n" for s in all_sheets(args))
+        rust = said(subprocess.Popen([oracle, path], stdout=subprocess.PIPE))
+        ours = said(subprocess.Popen([*shlex.split(args.ours), path], stdout=subprocess.PIPE))
+        for s in open(path, "rb"):
+            s = s[:-1]
+            lines = our_answer(ours)
+            tally.take(s, next(rust), lines)
+            if args.whole:
+                tally.hold(s, lines)
+        if list(rust) or list(ours):
+            sys.exit("more answers than sheets")
     tally.report()
-    sys.exit(tally.unlisted > 0)
+    sys.exit(tally.unlisted + tally.otherwise > 0)
 
 
 if __name__ == "__main__":

@@ -1,0 +1,74 @@
+/* Faults planted round the entries, to show that the fuzzer finds them: FAULT=1 to 28 in the environment, 0 for none. Linked with
+ * -Wl,--wrap=lorukinde_read_sheet,--wrap=lorukinde_read_part,--wrap=lorukinde_note, so the library itself stays as it is. */
+#include <stdlib.h>
+#include <string.h>
+
+#include "lorukinde.h"
+
+uint32_t __real_lorukinde_read_sheet(const uint8_t *, size_t, uint8_t *, size_t, uint32_t *, uint32_t *, uint32_t *);
+uint32_t __real_lorukinde_read_part(const uint8_t *, size_t, size_t, uint8_t *, size_t, uint32_t *, uint32_t *, uint32_t *, uint32_t *, uint32_t *);
+uint32_t __real_lorukinde_note(size_t, size_t, int32_t, int32_t, size_t *, size_t *);
+
+static int fault(void)
+{
+    static int n = -1;
+    return n >= 0 ? n : (n = atoi(getenv("FAULT")));
+}
+
+static volatile uint8_t seen;
+
+uint32_t __wrap_lorukinde_read_sheet(const uint8_t *sheet, size_t n, uint8_t *table, size_t bytes, uint32_t *place, uint32_t *records, uint32_t *warnings)
+{
+    uint8_t before[4] = {0};
+    if (bytes >= 64)
+        memcpy(before, table + 60, 4);
+    uint32_t number = __real_lorukinde_read_sheet(sheet, n, table, bytes, place, records, warnings);
+    size_t used = 64 * (size_t)*records;
+    switch (fault()) {
+    case 1: seen = sheet[n]; break;                                       /* a byte behind the sheet is read */
+    case 2: seen = sheet[-1]; break;                                      /* one before it */
+    case 3: table[bytes] ^= 1; break;                                     /* a byte behind the table is written */
+    case 4: table[-1] ^= 1; break;                                        /* one before it */
+    case 5: if (n) *(volatile uint8_t *)(sheet + n / 2) = sheet[n / 2]; break; /* the sheet is written to */
+    case 6: if (used < bytes) table[used] ^= 1; break;                    /* a byte behind the records is changed */
+    case 7: if (number == 3 && bytes) table[bytes - 1] ^= 128; break;     /* a refusal changes the table */
+    case 8: if (number == 10 && bytes) table[0] ^= 1; break;              /* so does one for want of room */
+    case 9: if (used) memcpy(table + 60, before, 4); break;               /* a record's last word is not written */
+    case 10: *records += number == 0; break;                              /* a record too many is said */
+    case 11: *place += number == 4 && *place > 0; break;                  /* a refusal's place is moved */
+    case 12: *warnings = 0; break;                                        /* no warning is counted */
+    case 13: if (number == 0 && used == bytes / 64 * 64) number = 10, *records = 0; break; /* the last record of the room is not used */
+    case 14: place[1] = 0; break;                                         /* 64 bits are stored for 32 */
+    case 15: if (used) table[20]++; break;                                /* a head counts an item too many */
+    }
+    return number;
+}
+
+uint32_t __wrap_lorukinde_read_part(const uint8_t *sheet, size_t n, size_t begin, uint8_t *table, size_t bytes, uint32_t *place, uint32_t *records, uint32_t *warnings, uint32_t *next, uint32_t *last)
+{
+    uint32_t number = __real_lorukinde_read_part(sheet, n, fault() == 16 ? 0 : begin, table, bytes, place, records, warnings, next, last); /* the first part for all */
+    size_t used = 64 * (size_t)*records;
+    switch (fault()) {
+    case 17: *next += !*last && *next < n; break;                         /* the next part's place is moved */
+    case 18: *last = 1; break;                                            /* every part is the last */
+    case 19: if (number == 2) *last = 0; break;
+    case 20: if (number >= 3) *place -= (uint32_t)begin; break;           /* places are the part's, not the sheet's */
+    case 21: if (used && table[16] && begin) table[12]--; break;          /* a later part's comment starts at its quote */
+    case 22: if (number == 0 && used == 64 && begin) number = 3, *place = (uint32_t)begin, *records = *warnings = 0; break;
+    case 23: if (used < bytes && number == 2) table[used] ^= 1; break;    /* a refused place changes the table */
+    case 24: last[1] = 0; break;
+    }
+    return number;
+}
+
+uint32_t __wrap_lorukinde_note(size_t sheet_len, size_t note_len, int32_t start, int32_t length, size_t *from, size_t *to)
+{
+    uint32_t which = __real_lorukinde_note(sheet_len, note_len, start, length, from, to);
+    switch (fault()) {
+    case 25: *to += which == 1; break;                                    /* the note's end is moved */
+    case 26: if (length < 0) *to = note_len; break;                       /* the standing note for numbers outside the sheet */
+    case 27: if (which == 0 && length == 0) *to = 0; break;               /* no standing note */
+    case 28: from[1] = 0; break;
+    }
+    return which;
+}

@@ -1,0 +1,774 @@
+/* fuzz SEED CALLS end|begin: drives the C entries with random sheets, tables and places for at least CALLS calls, and stops at the first wrong answer.
+ *
+ * Every lent buffer (sheet, table, each number) ends exactly at an unreadable page (end) or begins exactly behind one (begin), so a step outside it on
+ * that side is a fault; on the other side the bytes next to it are compared. The sheet is lent through a read-only view. Before each call the table has
+ * fresh random marks; after it every byte behind the records is as before, and on a refusal every byte. */
+#define _GNU_SOURCE
+#include <signal.h>
+#include <stdbool.h>
+#include <stdio.h>
+#include <stdlib.h>
+#include <string.h>
+#include <sys/mman.h>
+#include <unistd.h>
+
+#include "lorukinde.h"
+
+enum { PAGE = 4096, SHEET_ROOM = 6 * PAGE, RECORDS = 2740, TABLE_ROOM = 43 * PAGE, NEAR = 256, NUMBERS = 5, MOST = LORUKINDE_SHEET_BYTES };
+
+/* ---- random numbers: splitmix64 */
+static uint64_t state;
+
+static uint64_t next64(void)
+{
+    uint64_t z = state += 0x9e3779b97f4a7c15u;
+    z = (z ^ z >> 30) * 0xbf58476d1ce4e5b9u;
+    z = (z ^ z >> 27) * 0x94d049bb133111ebu;
+    return z ^ z >> 31;
+}
+
+static size_t below(size_t n)
+{
+    return (size_t)(next64() % n);
+}
+
+static bool chance(unsigned percent)
+{
+    return below(100) < percent;
+}
+
+/* ---- lent buffers */
+static bool at_end;
+
+struct room {
+    uint8_t *lend; /* what a call is given a part of */
+    uint8_t *own;  /* the same bytes, always writable */
+    size_t size;
+};
+
+static void must(bool good, const char *what)
+{
+    if (!good) {
+        perror(what);
+        exit(2);
+    }
+}
+
+/* so many bytes between two unreadable pages */
+static struct room room_of(size_t size, int protection)
+{
+    int file = memfd_create("room", 0);
+    must(file >= 0 && !ftruncate(file, (off_t)size), "memfd_create");
+    uint8_t *whole = mmap(NULL, size + 2 * PAGE, PROT_NONE, MAP_PRIVATE | MAP_ANONYMOUS, -1, 0);
+    must(whole != MAP_FAILED, "mmap");
+    must(mmap(whole + PAGE, size, protection, MAP_SHARED | MAP_FIXED, file, 0) != MAP_FAILED, "mmap");
+    uint8_t *own = mmap(NULL, size, PROT_READ | PROT_WRITE, MAP_SHARED, file, 0);
+    must(own != MAP_FAILED, "mmap");
+    return (struct room){whole + PAGE, own, size};
+}
+
+static size_t offset(const struct room *r, size_t length)
+{
+    return at_end ? r->size - length : 0;
+}
+
+static struct room sheet_room, table_room, number_rooms[NUMBERS], size_rooms[2];
+static uint8_t marks[TABLE_ROOM]; /* what the table's room held before the call */
+static uint8_t sheet[SHEET_ROOM]; /* the sheet of this round, and its length */
+static size_t length;
+
+static void stop(const char *what)
+{
+    printf("WRONG: %s\nsheet of %zu bytes: ", what, length);
+    for (size_t i = 0; i < length; i++)
+        printf(sheet[i] >= 32 && sheet[i] < 127 && sheet[i] != '\\' ? "%c" : "\\x%02x", sheet[i]);
+    printf("\n");
+    exit(1);
+}
+
+static void stepped_outside(int signal)
+{
+    (void)signal;
+    stop("a step outside a lent buffer, or a write to the sheet");
+}
+
+static void need(bool good, const char *what)
+{
+    if (!good)
+        stop(what);
+}
+
+static void fill(uint8_t *to, size_t n)
+{
+    for (size_t i = 0; i < n; i += 8) {
+        uint64_t x = next64();
+        memcpy(to + i, &x, n - i < 8 ? n - i : 8);
+    }
+}
+
+/* a number's place, with marks beside it */
+static void *lend_number(const struct room *r, size_t bytes)
+{
+    memset(r->own, 0xa5, NEAR);
+    memset(r->own + r->size - NEAR, 0xa5, NEAR);
+    return r->lend + offset(r, bytes);
+}
+
+static void number_kept(const struct room *r, size_t bytes)
+{
+    for (size_t i = 0; i < NEAR; i++)
+        need(at_end ? i < bytes || r->own[r->size - 1 - i] == 0xa5 : i < bytes || r->own[i] == 0xa5, "a byte beside a number was changed");
+}
+
+/* ---- calls */
+struct answer {
+    uint32_t number, place, records, warnings, next, last;
+    const uint8_t *table;
+};
+
+static uint64_t calls, sheet_numbers[11], part_numbers[11], notes[2], records_seen, warnings_seen;
+
+static int32_t word(const uint8_t *record, int i)
+{
+    const uint8_t *b = record + 4 * i;
+    return (int32_t)((uint32_t)b[0] | (uint32_t)b[1] << 8 | (uint32_t)b[2] << 16 | (uint32_t)b[3] << 24);
+}
+
+/* the records of the call before, which stay readable until the next one */
+static size_t old_from, old_bytes;
+
+/* the table's fresh marks before a call, and after it only records have changed */
+static uint8_t *lend_table(size_t bytes)
+{
+    size_t o = offset(&table_room, bytes);
+    memcpy(table_room.own + old_from, marks + old_from, old_bytes);
+    fill(marks + o, bytes);
+    memcpy(table_room.own + o, marks + o, bytes);
+    return table_room.lend + o;
+}
+
+static void table_kept(size_t bytes, const struct answer *a)
+{
+    size_t o = offset(&table_room, bytes), used = (size_t)a->records * 64;
+    need(used <= bytes, "more records than the table holds");
+    old_from = o, old_bytes = used;
+    need(!memcmp(table_room.own + o + used, marks + o + used, bytes - used), a->number ? "a refusal changed the table" : "a byte behind the records was changed");
+    size_t front = o < PAGE ? o : PAGE, behind = table_room.size - o - bytes < PAGE ? table_room.size - o - bytes : PAGE;
+    need(!memcmp(table_room.own + o - front, marks + o - front, front), "a byte before the table was changed");
+    need(!memcmp(table_room.own + o + bytes, marks + o + bytes, behind), "a byte behind the table was changed");
+}
+
+static bool within(int32_t x, int32_t lo, int32_t hi)
+{
+    return lo <= x && x <= hi;
+}
+
+static bool year(int32_t y)
+{
+    return y == 0 || within(y, 1900, 10000);
+}
+
+/* form, year, month, day or weekday, n, weekday offset, day offset: words i to i + 6 */
+static bool date(const uint8_t *r, int i)
+{
+    int32_t form = word(r, i), m = word(r, i + 2), d = word(r, i + 3), n = word(r, i + 4);
+    bool shape = form == 1 ? within(m, 1, 12) && within(d, 1, 31) && n == 0
+               : form == 2 ? within(m, 1, 12) && within(d, 1, 7) && within(n, -5, 5) && n != 0
+                           : form == 3 && m == 0 && d == 0 && n == 0;
+    return shape && year(word(r, i + 1)) && within(word(r, i + 5), -7, 7) && within(word(r, i + 6), -32767, 32767);
+}
+
+static bool moment(int32_t kind, int32_t at, int32_t most)
+{
+    return kind == 0 ? within(at, 0, most) : within(kind, 1, 4) && within(at, -1440, 1440);
+}
+
+/* an item's words lie in their ranges; those from `used` on are 0 */
+static bool item(const uint8_t *r)
+{
+    int32_t w[16], used = 0;
+    for (int i = 0; i < 16; i++)
+        w[i] = word(r, i);
+    bool good = false;
+    switch (w[0]) {
+    case 2: used = 4; good = within(w[1], 1900, w[2]) && within(w[2], w[1], 9999) && within(w[3], 0, w[2] - w[1] ? w[2] - w[1] : 1); break;
+    case 3: used = 4; good = year(w[1]) && w[1] < 10000 && within(w[2], 1, 12) && within(w[3], 1, 12); break;
+    case 4: used = 15; good = date(r, 1) && date(r, 8) && w[2] < 10000; break;
+    case 5: used = 4; good = within(w[1], 1, w[2]) && within(w[2], w[1], 53) && within(w[3], 0, w[2] - w[1] ? w[2] - w[1] : 1); break;
+    case 6: used = 6; good = within(w[1], 1, 7) && within(w[2], 1, 7) && within(w[3], -32767, 32767) && within(w[4], 0, 31) && within(w[5], 0, 31) && w[4] + w[5] > 0; break;
+    case 7: used = 3; good = within(w[1], 1, 2) && within(w[2], -32767, 32767); break;
+    case 8: used = 7; good = moment(w[1], w[2], 1440) && moment(w[3], w[4], 2880) && within(w[5], -1, 1439) && within(w[6], 0, 1); break;
+    }
+    for (int i = used; i < 16; i++)
+        good = good && w[i] == 0;
+    return good;
+}
+
+/* a head's words, for a text from `begin` to `end`; its comment stands between two quotes */
+static bool head(const uint8_t *r, bool first, const uint8_t *s, size_t begin, size_t end)
+{
+    int32_t start = word(r, 3), n = word(r, 4);
+    bool good = word(r, 0) == 1 && within(word(r, 1), 0, first ? 0 : 2) && within(word(r, 2), 0, 2) && word(r, 5) >= 0;
+    for (int i = 6; i < 16; i++)
+        good = good && word(r, i) == 0;
+    if (n == 0)
+        return good && start == 0;
+    good = good && n > 0 && start > (int32_t)begin && (size_t)start + (size_t)n < end && s[start - 1] == '"' && s[start + n] == '"';
+    for (int32_t i = 0; good && i < n; i++)
+        good = s[start + i] >= 32 && s[start + i] != '"';
+    return good;
+}
+
+/* the answer for the text from `begin` to `end` of s */
+static void answer_good(const struct answer *a, const uint8_t *s, size_t begin, size_t end, size_t table_bytes)
+{
+    need(a->number <= 10, "a number above 10");
+    need(a->place <= end, "a place behind the text");
+    if (a->number) {
+        need(a->records == 0 && a->warnings == 0, "a refusal with records or warnings");
+        if (a->number >= 3 && a->number <= 9) { /* the place where the blanks before a rule end */
+            size_t i = a->place;
+            need(i >= begin && (i == end || s[i] != ' '), "a refusal's place is a blank, or lies before the text");
+            while (i > begin && s[i - 1] == ' ')
+                i--;
+            need(i == begin || s[i - 1] == ';' || s[i - 1] == ',' || s[i - 1] == '|', "a refusal's place is no rule's");
+        } else {
+            need(a->place == (a->number == 10 ? begin : 0), "1 and 2 have the place 0, 10 the text's first byte");
+        }
+        return;
+    }
+    need(a->place == 0 && a->records >= 1 && (size_t)a->records * 64 <= table_bytes, "an accepted text's numbers");
+    need(a->warnings <= end - begin, "more warnings than bytes");
+    for (uint32_t i = 0; i < a->records;) {
+        const uint8_t *r = a->table + 64 * (size_t)i;
+        need(head(r, i == 0, s, begin, end), "a head's words");
+        uint32_t items = (uint32_t)word(r, 5);
+        need(items < a->records - i, "item counts that do not add up");
+        for (uint32_t k = 1; k <= items; k++)
+            need(item(r + 64 * k), "an item's words");
+        i += 1 + items;
+    }
+    records_seen += a->records;
+    warnings_seen += a->warnings;
+}
+
+static const uint8_t *lend_sheet(const uint8_t *s, size_t n)
+{
+    size_t o = offset(&sheet_room, n);
+    memcpy(sheet_room.own + o, s, n);
+    return sheet_room.lend + o;
+}
+
+static struct answer read_sheet(const uint8_t *s, size_t n, size_t table_bytes)
+{
+    struct answer a = {0};
+    const uint8_t *lent = lend_sheet(s, n);
+    uint8_t *table = lend_table(table_bytes);
+    uint32_t *p[3];
+    for (int i = 0; i < 3; i++)
+        p[i] = lend_number(&number_rooms[i], 4);
+    a.number = lorukinde_read_sheet(lent, n, table, table_bytes, p[0], p[1], p[2]);
+    calls++;
+    for (int i = 0; i < 3; i++)
+        number_kept(&number_rooms[i], 4);
+    a.place = *p[0], a.records = *p[1], a.warnings = *p[2], a.table = table;
+    need(a.number != 2 && a.number <= 10, "a sheet's number");
+    need((a.number == 1) == (n > MOST), "1 is for over 4,096 bytes");
+    table_kept(table_bytes, &a);
+    answer_good(&a, s, 0, n, table_bytes);
+    sheet_numbers[a.number]++;
+    return a;
+}
+
+/* the part at `begin`, which is to end at `end`; end is above n where no part begins there */
+static struct answer read_part(const uint8_t *s, size_t n, size_t begin, size_t end, size_t table_bytes)
+{
+    struct answer a = {0};
+    const uint8_t *lent = lend_sheet(s, n);
+    uint8_t *table = lend_table(table_bytes);
+    uint32_t *p[NUMBERS];
+    for (int i = 0; i < NUMBERS; i++)
+        p[i] = lend_number(&number_rooms[i], 4);
+    a.number = lorukinde_read_part(lent, n, begin, table, table_bytes, p[0], p[1], p[2], p[3], p[4]);
+    calls++;
+    for (int i = 0; i < NUMBERS; i++)
+        number_kept(&number_rooms[i], 4);
+    a.place = *p[0], a.records = *p[1], a.warnings = *p[2], a.next = *p[3], a.last = *p[4], a.table = table;
+    need(a.number <= 10, "a part's number");
+    need((a.number == 1) == (n > MOST), "1 is for over 4,096 bytes");
+    need((a.number == 2) == (n <= MOST && end > n), "2 is for a place where no part begins");
+    table_kept(table_bytes, &a);
+    bool none = a.number == 1 || a.number == 2;
+    answer_good(&a, s, none ? 0 : begin, none ? n : end, table_bytes);
+    need(a.last <= 1 && (none || end == n ? a.last == 1 && a.next == 0 : a.last == 0 && a.next == end + 1), "next, last");
+    part_numbers[a.number]++;
+    return a;
+}
+
+static void note(size_t sheet_bytes, size_t note_bytes, int32_t start, int32_t n)
+{
+    size_t *from = lend_number(&size_rooms[0], sizeof *from), *to = lend_number(&size_rooms[1], sizeof *to);
+    uint32_t which = lorukinde_note(sheet_bytes, note_bytes, start, n, from, to);
+    calls++;
+    number_kept(&size_rooms[0], sizeof *from);
+    number_kept(&size_rooms[1], sizeof *to);
+    need(which <= 1 && *from <= *to && *to <= (which ? sheet_bytes : note_bytes), "a note outside its slice");
+    bool inside = n > 0 && start >= 0 && (uint64_t)start + (uint64_t)n <= sheet_bytes;
+    if (inside)
+        need(which == 1 && *from == (size_t)start && *to == (size_t)start + (size_t)n, "a note that is not the comment");
+    else
+        need(which == 0 && *from == 0 && *to == (n ? 0 : note_bytes), "a note that is not the standing note, or not empty");
+    notes[which]++;
+}
+
+/* ---- sheets: a small grammar, damage, and bytes of any kind */
+static void put(const char *text)
+{
+    size_t n = strlen(text);
+    if (length + n <= sizeof sheet) {
+        memcpy(sheet + length, text, n);
+        length += n;
+    }
+}
+
+#define PICK(...) pick((const char *[]){__VA_ARGS__}, sizeof((const char *[]){__VA_ARGS__}) / sizeof(char *))
+static void pick(const char *const *some, size_t n)
+{
+    put(some[below(n)]);
+}
+
+static void number(const char *form, unsigned lo, unsigned hi)
+{
+    char text[16];
+    if (chance(3)) /* just outside, or far */
+        lo = hi + 1, hi = chance(50) ? lo : 2 * lo + 9;
+    snprintf(text, sizeof text, form, lo + (unsigned)below(hi - lo + 1));
+    put(text);
+}
+
+static void name(const char *const *some, size_t n)
+{
+    size_t from = length;
+    pick(some, n);
+    if (chance(4)) /* some letters small that are large, or the reverse */
+        for (size_t i = from; i < length; i++)
+            sheet[i] ^= chance(50) ? 32 : 0;
+}
+#define NAME(...) name((const char *[]){__VA_ARGS__}, sizeof((const char *[]){__VA_ARGS__}) / sizeof(char *))
+#define WEEKDAY() NAME("Mo", "Tu", "We", "Th", "Fr", "Sa", "Su")
+#define MONTH() NAME("Jan", "Feb", "Mar", "Apr", "May", "Jun", "Jul", "Aug", "Sep", "Oct", "Nov", "Dec")
+#define EVENT() NAME("dawn", "sunrise", "sunset", "dusk")
+
+static void blank(void)
+{
+    put(chance(95) ? " " : "   ");
+}
+
+static void years(void)
+{
+    number("%04u", 1900, 9999);
+    if (chance(30))
+        put("+");
+    else if (chance(50)) {
+        put("-");
+        number("%04u", 1900, 9999);
+        if (chance(50))
+            put("/"), number("%u", 0, 32767);
+    }
+}
+
+static void weeks(void)
+{
+    number("%02u", 1, 53);
+    if (chance(50)) {
+        put("-");
+        number("%u", 1, 53);
+        if (chance(50))
+            put("/"), number("%u", 0, 255);
+    }
+}
+
+static void day_offset(void)
+{
+    blank(), PICK("+", "-"), number("%u", 0, 32767), blank(), PICK("day", "days");
+}
+
+static void maybe_offset(void)
+{
+    if (chance(15))
+        PICK("+", "-"), WEEKDAY();
+    if (chance(15))
+        day_offset();
+}
+
+static void one_date(void)
+{
+    if (chance(30))
+        number("%04u", 1900, 9999), blank();
+    if (chance(15)) {
+        NAME("easter");
+        return;
+    }
+    MONTH(), blank();
+    if (chance(75))
+        number("%u", 1, 31);
+    else
+        WEEKDAY(), put(chance(50) ? "[" : "[-"), number("%u", 1, 5), put("]");
+}
+
+static void month_days(void)
+{
+    if (chance(30)) {
+        MONTH();
+        if (chance(50))
+            put("-"), MONTH();
+        return;
+    }
+    one_date(), maybe_offset();
+    switch (below(4)) {
+    case 0: put("+"); break;
+    case 1: put("-"), one_date(), maybe_offset(); break;
+    case 2: put("-"), number("%u", 1, 31), maybe_offset(); break;
+    }
+}
+
+static void weekdays(void)
+{
+    if (chance(25)) {
+        PICK("PH", "SH");
+        if (chance(20))
+            day_offset();
+        return;
+    }
+    WEEKDAY();
+    if (chance(40)) {
+        put("-"), WEEKDAY();
+    } else if (chance(30)) {
+        put("[");
+        do {
+            if (chance(30))
+                put("-");
+            number("%u", 1, 5);
+            if (chance(20))
+                put("-"), number("%u", 1, 5);
+        } while (chance(40) && (put(","), true));
+        put("]");
+        if (chance(20))
+            day_offset();
+    }
+}
+
+static void one_time(unsigned hours)
+{
+    if (chance(80))
+        number("%u", 0, hours), put(":"), number("%02u", 0, 59);
+    else if (chance(50))
+        EVENT();
+    else
+        put("("), EVENT(), PICK("+", "-"), number("%u", 0, 23), put(":"), number("%02u", 0, 59), put(")");
+}
+
+static void times(void)
+{
+    one_time(23);
+    if (chance(2))
+        return; /* a point in time */
+    if (chance(15)) {
+        put("+");
+        return;
+    }
+    put("-"), one_time(47);
+    switch (below(8)) {
+    case 0: put("+"); break;
+    case 1: put("/"), number("%02u", 0, 59); break;
+    case 2: put("/"), number("%u", 0, 23), put(":"), number("%02u", 0, 59); break;
+    }
+}
+
+static void list(void (*one)(void))
+{
+    one();
+    while (chance(25))
+        put(","), one();
+}
+
+static void comment(void)
+{
+    put("\"");
+    for (size_t n = 1 + below(8); n > 0; n--)
+        PICK("a", ";", " ", ",", "||", "\xc3\xa9", "\xff", "Mo", "x:");
+    put("\"");
+}
+
+static void rule(void)
+{
+    if (chance(5)) {
+        put("24/7");
+    } else if (chance(95)) {
+        bool any = false;
+        if (chance(4))
+            comment(), put(": "), list(weekdays), any = true;
+        if (!any && chance(15))
+            list(years), any = true;
+        if (chance(25))
+            any ? blank() : (void)0, list(month_days), any = true;
+        if (chance(12))
+            any ? blank() : (void)0, put("week"), blank(), list(weeks), any = true;
+        if (any && chance(10))
+            put(":");
+        if (!any || chance(50))
+            any ? blank() : (void)0, list(weekdays), any = true;
+        if (chance(50))
+            blank(), list(times);
+    } else {
+        list(times);
+    }
+    if (chance(30)) {
+        blank();
+        if (chance(80))
+            NAME("open", "closed", "off", "unknown");
+        else
+            comment();
+        if (chance(30))
+            blank(), comment();
+    }
+}
+
+static void damage(void)
+{
+    static const char bytes[] = "0123456789 ::;,|+-/[]()\"\"MoTuWeJanPHSHweekdays\t\\\x7f\xff";
+    size_t i = below(length + 1), n;
+    uint8_t b = chance(80) ? (uint8_t)bytes[below(sizeof bytes)] : (uint8_t)next64(); /* its last byte, 0, too */
+    switch (below(4)) {
+    case 0: /* another byte */
+        if (i < length)
+            sheet[i] = b;
+        break;
+    case 1: /* one more */
+        if (length < sizeof sheet)
+            memmove(sheet + i + 1, sheet + i, length - i), sheet[i] = b, length++;
+        break;
+    case 2: /* some fewer */
+        n = below(4);
+        n = n < length - i ? n : length - i;
+        memmove(sheet + i, sheet + i + n, length - i - n), length -= n;
+        break;
+    default: /* cut */
+        if (chance(30))
+            length = i;
+    }
+}
+
+static void rules_up_to(size_t most)
+{
+    rule();
+    while (length < most)
+        PICK(";", "; ", ", ", " || ", "||", " ; "), rule();
+}
+
+static void make_sheet(void)
+{
+    size_t kind = below(1000);
+    length = 0;
+    if (kind < 120) { /* any bytes */
+        length = below(chance(90) ? 40 : 300);
+        fill(sheet, length);
+    } else if (kind < 200) { /* bytes of sheets, in any order */
+        static const char bytes[] = "0123459 ::;;,|+-/[]()\"\"MoSuweekJan";
+        for (length = 0; length < 30 && chance(95); length++)
+            sheet[length] = (uint8_t)bytes[below(sizeof bytes - 1)];
+    } else if (kind < 204) { /* as long as a sheet may be, a little less or more */
+        size_t whole = MOST - 3 + below(7), good = chance(50) ? 100 : 99;
+        switch (below(6)) {
+        case 0: rules_up_to(whole); break;
+        case 1: put("week 1"); while (length < whole) put(",2"); break; /* the most records of one rule */
+        case 2: while (length < whole) put(chance((unsigned)good) ? "Mo;" : ";"); break; /* the most parts and records */
+        case 3: put("Mo \""); while (length < whole - 1) put(chance(90) ? "c" : ";"); put("\""); break;
+        case 4: put("10:00-12:00"); while (length < whole) put(",10:00-12:00"); break;
+        default: length = whole; fill(sheet, length);
+        }
+        if (chance(70) && whole < length)
+            length = whole;
+        if (chance(30) && sheet[length - 1] == ';')
+            length--;
+        while (chance(50) && length < whole)
+            put(" ");
+    } else if (kind < 205) { /* far too long */
+        length = MOST + below(sizeof sheet - MOST + 1);
+        fill(sheet, length);
+    } else if (kind < 215) {
+        rules_up_to(100 + below(900));
+    } else {
+        if (chance(5))
+            blank();
+        rules_up_to(below(chance(70) ? 1 : 60));
+        if (chance(5))
+            blank();
+    }
+    if (kind >= 200 && kind != 204)
+        for (size_t n = below(10) < 6 ? 0 : 1 + below(3); n > 0; n--)
+            damage();
+}
+
+static size_t any_table(void)
+{
+    switch (below(10)) {
+    case 0: return 0;
+    case 1: return below(130);
+    case 2: return 64 * below(8) + below(3) * 63 % 65;
+    case 3: return below(5) ? below(3000) : below(RECORDS * 64 + 1);
+    case 4: return 512 * 64;
+    default: return 64 * (1 + below(24));
+    }
+}
+
+/* ---- a round: one sheet, by every call */
+/* bytes of a table that holds every text of n bytes: `Mo;Mo` has the most records for its length, two in three bytes */
+static size_t ample(size_t n)
+{
+    return n <= MOST ? 64 * (2 * (n + 1) / 3 + 3) : RECORDS * 64;
+}
+
+static uint8_t whole[RECORDS * 64]; /* the sheet's records with a table that holds everything */
+static size_t begins[MOST + 2], ends[MOST + 2];
+
+/* the parts of the sheet: a quote flips inside and outside, a part ends at a `;` outside */
+static size_t cut(void)
+{
+    size_t parts = 0;
+    bool inside = false;
+    begins[0] = 0;
+    for (size_t i = 0; i < length; i++) {
+        inside ^= sheet[i] == '"';
+        if (sheet[i] == ';' && !inside)
+            ends[parts++] = i, begins[parts] = i + 1;
+    }
+    ends[parts++] = length;
+    return parts;
+}
+
+/* a reading with some other table: the same answer and records where they fit, else 10 */
+static void same_with(size_t table_bytes, const struct answer *full)
+{
+    struct answer a = read_sheet(sheet, length, table_bytes);
+    if (full->number == 0 && full->records > table_bytes / 64) {
+        need(a.number == 10, "10 where the records do not fit");
+        return;
+    }
+    need(a.number == full->number && a.place == full->place && a.records == full->records && a.warnings == full->warnings, "the answer hangs on the table");
+    need(!memcmp(a.table, whole, 64 * (size_t)a.records), "the records hang on the table");
+}
+
+/* a part read in its sheet is the part read alone, with its places moved */
+static void same_alone(size_t begin, size_t end, size_t table_bytes, const struct answer *in_sheet, const uint8_t *records)
+{
+    struct answer a = read_sheet(sheet + begin, end - begin, table_bytes);
+    need(a.number == in_sheet->number && a.place + (a.number ? begin : 0) == in_sheet->place, "a part alone: number, place");
+    need(a.records == in_sheet->records && a.warnings == in_sheet->warnings, "a part alone: records, warnings");
+    for (size_t i = 0; i < a.records; i++)
+        for (int k = 0; k < 16; k++) {
+            const uint8_t *r = a.table + 64 * i;
+            int32_t moved = k == 3 && word(r, 0) == 1 && word(r, 4) ? (int32_t)begin : 0;
+            need(word(r, k) + moved == word(records + 64 * i, k), "a part alone: its records");
+        }
+}
+
+static void round_of_calls(void)
+{
+    static uint8_t kept[RECORDS * 64];
+    make_sheet();
+    struct answer full = read_sheet(sheet, length, ample(length));
+    need(full.number != 10, "10 with a table that holds everything");
+    memcpy(whole, full.table, 64 * (size_t)full.records);
+    if (full.number == 0 && full.records > 1 && chance(50))
+        same_with(64 * (size_t)full.records - 1 - below(2) * 63, &full); /* just too small */
+    if (full.number == 0 && chance(50))
+        same_with(64 * (size_t)full.records + below(64), &full); /* just enough */
+    same_with(any_table(), &full);
+
+    if (length > MOST) {
+        read_part(sheet, length, below(length + 2), length + 1, any_table());
+        return;
+    }
+    /* its parts, from 0 on by next */
+    size_t parts = cut(), used = 0, first_bad = parts, warnings = 0;
+    struct answer bad = {0};
+    for (size_t k = 0, place = 0; k < parts; k++) {
+        need(place == begins[k], "next does not go from part to part");
+        struct answer a = read_part(sheet, length, place, ends[k], ample(ends[k] - place));
+        need(a.number != 10, "10 with a table that holds everything");
+        if (a.number && first_bad == parts)
+            first_bad = k, bad = a;
+        if (a.number == 0 && full.number == 0) {
+            need(used + a.records <= full.records && !memcmp(a.table, whole + 64 * used, 64 * (size_t)a.records), "the parts' records, in order, are the sheet's");
+            used += a.records, warnings += a.warnings;
+        }
+        place = a.next;
+        if (chance(30) && (parts < 50 || chance(5))) {
+            size_t table_bytes = chance(50) ? any_table() : ample(ends[k] - begins[k]);
+            struct answer b = read_part(sheet, length, begins[k], ends[k], table_bytes);
+            memcpy(kept, b.table, 64 * (size_t)b.records);
+            same_alone(begins[k], ends[k], table_bytes, &b, kept);
+        }
+    }
+    need((full.number == 0) == (first_bad == parts), "a sheet is accepted exactly when every part is");
+    if (full.number == 0)
+        need(used == full.records && warnings == full.warnings, "the parts' records and warnings are the sheet's");
+    else
+        need(full.number == bad.number && full.place == bad.place, "a sheet is refused as its first refused part is");
+
+    /* places of any kind */
+    for (int i = 0; i < 2; i++) {
+        size_t place = chance(10) ? (size_t)next64() >> below(64) : chance(10) ? length + below(3) : below(length + 1), end = length + 1;
+        for (size_t k = 0; k < parts; k++)
+            if (begins[k] == place)
+                end = ends[k];
+        read_part(sheet, length, place, end, any_table());
+    }
+    /* notes: of the records, and of any numbers */
+    if (full.number == 0)
+        note(length, below(50), word(whole, 3), word(whole, 4));
+    static const int32_t edge[] = {INT32_MIN, INT32_MIN + 1, -1, 0, 1, 2, 4095, 4096, 4097, INT32_MAX - 1, INT32_MAX};
+    int32_t start = chance(30) ? edge[below(11)] : chance(20) ? (int32_t)next64() : (int32_t)below(length + 3);
+    int32_t n = chance(30) ? edge[below(11)] : chance(20) ? (int32_t)next64() : (int32_t)below(length + 3);
+    note(chance(5) ? (size_t)next64() >> below(64) : length, chance(5) ? (size_t)next64() >> below(64) : below(100), start, n);
+}
+
+static void counts(const char *name, const uint64_t *numbers, size_t n)
+{
+    uint64_t all = 0;
+    for (size_t i = 0; i < n; i++)
+        all += numbers[i];
+    printf("%s: %llu calls;", name, (unsigned long long)all);
+    for (size_t i = 0; i < n; i++)
+        printf(" %zu: %llu", i, (unsigned long long)numbers[i]);
+    printf("\n");
+}
+
+int main(int argc, char **argv)
+{
+    if (argc != 4 || (strcmp(argv[3], "end") && strcmp(argv[3], "begin"))) {
+        fprintf(stderr, "fuzz SEED CALLS end|begin\n");
+        return 2;
+    }
+    state = strtoull(argv[1], NULL, 10);
+    uint64_t wanted = strtoull(argv[2], NULL, 10), rounds = 0;
+    at_end = !strcmp(argv[3], "end");
+    sheet_room = room_of(SHEET_ROOM, PROT_READ);
+    table_room = room_of(TABLE_ROOM, PROT_READ | PROT_WRITE);
+    for (int i = 0; i < NUMBERS; i++)
+        number_rooms[i] = room_of(PAGE, PROT_READ | PROT_WRITE);
+    for (int i = 0; i < 2; i++)
+        size_rooms[i] = room_of(PAGE, PROT_READ | PROT_WRITE);
+    memcpy(marks, table_room.own, TABLE_ROOM);
+    signal(SIGSEGV, stepped_outside);
+    signal(SIGBUS, stepped_outside);
+    for (; calls < wanted; rounds++)
+        round_of_calls();
+    printf("seed %s, each buffer's %s at an unreadable page: %llu sheets, %llu calls, nothing wrong\n", argv[1], argv[3], (unsigned long long)rounds, (unsigned long long)calls);
+    counts("read_sheet, by number", sheet_numbers, 11);
+    counts("read_part, by number", part_numbers, 11);
+    counts("note, out of the standing note (0) or the sheet (1)", notes, 2);
+    printf("records looked at: %llu; warnings: %llu\n", (unsigned long long)records_seen, (unsigned long long)warnings_seen);
+    return 0;
+}
