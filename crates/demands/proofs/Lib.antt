@@ -8,5 +8,6 @@ pub mod WarnedCut
 pub mod Together
 pub mod TogetherCalls
 pub mod TogetherWords
+pub mod TogetherBytes
 pub mod Opened
 pub mod Proved

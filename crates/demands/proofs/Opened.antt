@@ -29,7 +29,7 @@ use Rattle.rules.specs.Modifiers.{withComment, modifier, selected}
 use Rattle.rules.specs.Musts.{missing}
 use Rattle.rules.specs.Pieces.{more, weekdayStage, holidayStage, end}
 use Rattle.rules.specs.Rules.{always, wideComment, opening, wins, behind, rule, commaBlank, bars, separator, next}
-use Rattle.rules.specs.Tables.{overlay}
+use Rattle.rules.specs.Tables.{laid}
 use Rattle.sheet.specs.PartReadings.{withNext, partOf, partReading}
 use Rattle.sheet.specs.Parts.{partIn, begins, partEnd, beginnings}
 use Rattle.sheet.specs.Sheets.{textOf, sheetOf, textReading, sheetReading}
@@ -38,5 +38,5 @@ use Rattle.sheet.specs.Warnings.{isLetter, warningsIn}
 
 -- nothing, over the line that opens them
 unfoldable pub opened : Unit {0}
-unfolding chainIn chain many skip names spelledSo lower letter firstOf word name isDigit digit upTo digits clockBehind number insideOf one ahead atEnd allSmall written spelt warns within byte allOf blanks blank comma wordsOf dayClock endClock repeatClock spanMeaning repeated tail untilTime spanBehind spanShape timeItem eventItemBehind clock moved movedEvent rawTime backEntry frontEntry entry nextEntry setAll goodEntry marked markedAll entries bits holidayBehind holidayShape holidayMeaning holidayItem holidayItemBehind plusOrMinus dayOffset anyDays wdayOffset offset untilWeekday withEntries weekdayBehind weekdayShape flagged weekdayMeaning weekdayItem weekdayItemBehind optionalYear backNth frontNth nth weekdayOf dayOf dayBehind date untilDate bareDay until endShape datesBehind nextYear bareEnd lastDay dateMeaning monthMeaning lastMonth monthBehind monthItemBehind dateItemBehind monthDayBehind monthDayItem stepped untilLast goodRange stepOf weekShape weekMeaning weekItem yearBehind yearShape yearMeaning yearItem yearItemBehind isInner comment commentApart weeks small weeksOrSmall behindYears first colon anyDay headWords withComment modifier selected missing more weekdayStage holidayStage end always wideComment opening wins behind rule commaBlank bars separator next overlay withNext partOf partReading partIn begins partEnd beginnings textOf sheetOf textReading sheetReading parted moreRules noMore rules records isLetter warningsIn
+unfolding chainIn chain many skip names spelledSo lower letter firstOf word name isDigit digit upTo digits clockBehind number insideOf one ahead atEnd allSmall written spelt warns within byte allOf blanks blank comma wordsOf dayClock endClock repeatClock spanMeaning repeated tail untilTime spanBehind spanShape timeItem eventItemBehind clock moved movedEvent rawTime backEntry frontEntry entry nextEntry setAll goodEntry marked markedAll entries bits holidayBehind holidayShape holidayMeaning holidayItem holidayItemBehind plusOrMinus dayOffset anyDays wdayOffset offset untilWeekday withEntries weekdayBehind weekdayShape flagged weekdayMeaning weekdayItem weekdayItemBehind optionalYear backNth frontNth nth weekdayOf dayOf dayBehind date untilDate bareDay until endShape datesBehind nextYear bareEnd lastDay dateMeaning monthMeaning lastMonth monthBehind monthItemBehind dateItemBehind monthDayBehind monthDayItem stepped untilLast goodRange stepOf weekShape weekMeaning weekItem yearBehind yearShape yearMeaning yearItem yearItemBehind isInner comment commentApart weeks small weeksOrSmall behindYears first colon anyDay headWords withComment modifier selected missing more weekdayStage holidayStage end always wideComment opening wins behind rule commaBlank bars separator next laid withNext partOf partReading partIn begins partEnd beginnings textOf sheetOf textReading sheetReading parted moreRules noMore rules records isLetter warningsIn
 opened = tt

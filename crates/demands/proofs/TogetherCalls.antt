@@ -9,7 +9,7 @@ use native.Mathlib.Decide.{decLt}
 use lib.IntN.{ℤ}
 use lib.ListN.{length}
 use Rattle.names.specs.Tests.{if_then_else_}
-use Rattle.rules.specs.Tables.{overlay}
+use Rattle.rules.specs.Tables.{laid, overlay}
 use Rattle.sheet.specs.Parts.{partEnd, begins, places}
 use Rattle.sheet.specs.Sheets.{sheetReading}
 use Rattle.sheet.specs.PartReadings.{partOf, partReading}
@@ -26,7 +26,7 @@ written f t k (p ∷ ps) = written f (overlay t k (f p)) (k + length (f p)) ps
 
 -- one list of records after another
 overlay-append : (a b : List (List ℤ)) (t : List ℤ) (k : ℕ) → overlay (overlay t k a) (k + length a) b ≡ overlay t k (a ++ b)
-unfolding overlay
+unfolding laid
 overlay-append [] b t k = ap (λ (j : ℕ). overlay t j b) (add-zero k)
 overlay-append (r ∷ a) b t k =
     let e : k + suc (length a) ≡ suc k + length a = omega arith in
@@ -34,7 +34,7 @@ overlay-append (r ∷ a) b t k =
 
 -- one after another is all of them in order
 written-all : (f : ℕ → List (List ℤ)) (t : List ℤ) (k : ℕ) (ps : List ℕ) → written f t k ps ≡ overlay t k (inOrder f ps)
-unfolding overlay
+unfolding laid
 written-all f t k [] = refl
 written-all f t k (p ∷ ps) = written-all f (overlay t k (f p)) (k + length (f p)) ps ∙ overlay-append (f p) (inOrder f ps) t k
 

@@ -21,7 +21,7 @@ use Rattle.records.specs.declared.Item.{Item}
 use Rattle.records.specs.declared.Item.the-variants.{Years, Months, Dates, Weeks, Weekdays, Holidays, Times}
 use Rattle.rules.specs.Rules.{Rule}
 use Rattle.rules.specs.Heads.{headWords}
-use Rattle.rules.specs.Tables.{ruleRecords, overlay}
+use Rattle.rules.specs.Tables.{ruleRecords, laid, overlay}
 use Rattle.sheet.specs.Texts.{rules, records}
 use Rattle.sheet.specs.Sheets.{answerOf, refusal, judgedText, textOf, sheetOf, sheetReading}
 use Rattle.sheet.specs.Warnings.{warningsOf}
@@ -33,7 +33,7 @@ use Rattle.demands.proofs.Together.{Reading, PartReading, inOrder, toge
 -- ---- a record has 16 words
 
 -- every record of these does
-abbrev Sixteen : List (List ℤ) → Type 0
+abbrev pub Sixteen : List (List ℤ) → Type 0
 Sixteen [] = Unit {0}
 Sixteen (r ∷ rs) = (length r ≡ 16) × Sixteen rs
 
@@ -103,7 +103,7 @@ words-long (r ∷ rs) h = length-append r (words rs) ∙ omega (arith, words-lon
 
 -- records written over a table from slot k on: what stands before, their words, and what stands behind
 overlay-words : (rs : List (List ℤ)) (t : List ℤ) (k : ℕ) → Sixteen rs → (k + length rs) * 16 ≤ length t → overlay t k rs ≡ take (k * 16) t ++ (words rs ++ drop ((k + length rs) * 16) t)
-unfolding overlay
+unfolding laid
 overlay-words [] t k h l = rw (add-zero k) (sym (take-append-drop (k * 16) t))
 overlay-words (r ∷ rs) t k h l =
     let w = take (k * 16) t in
@@ -120,10 +120,10 @@ overlay-words (r ∷ rs) t k h l =
 -- ---- calls
 
 -- a reading's records are as many as it says, of 16 words each, and a table of n words holds them
-record Held (n count : ℕ) (rs : List (List ℤ)) : Type 0 where
-  many : count ≡ length rs
-  long : Sixteen rs
-  room : length rs ≤ n / 16
+pub record Held (n count : ℕ) (rs : List (List ℤ)) : Type 0 where
+  pub many : count ≡ length rs
+  pub long : Sixteen rs
+  pub room : length rs ≤ n / 16
 
 -- no records
 held-none : (n : ℕ) → Held n 0 []
@@ -150,7 +150,7 @@ either P true h k = h
 either P false h k = k
 
 -- of a part
-part-held : (s : List ℕ) (p n : ℕ) → Held n (partOf s p n .0 .records) (partOf s p n .1)
+pub part-held : (s : List ℕ) (p n : ℕ) → Held n (partOf s p n .0 .records) (partOf s p n .1)
 unfolding partOf withNext
 part-held s p n =
     let P : PartReading → Type 0 = λ r. Held n (r .0 .records) (r .1) in
@@ -159,7 +159,7 @@ part-held s p n =
     either P (ltb 4096 (length s)) (held-none n) (either P (not (begins s p)) (held-none n) (either (λ (a : PartAnswer). Held n (a .records) (textOf u p n .1)) (ltb (partEnd s p) (length s)) h h))
 
 -- and of a sheet
-sheet-held : (s : List ℕ) (n : ℕ) → Held n (sheetOf s n .0 .records) (sheetOf s n .1)
+pub sheet-held : (s : List ℕ) (n : ℕ) → Held n (sheetOf s n .0 .records) (sheetOf s n .1)
 unfolding sheetOf
 sheet-held s n = either (λ (r : Reading). Held n (r .0 .records) (r .1)) (ltb 4096 (length s)) (held-none n) (text-held s 0 n)
 

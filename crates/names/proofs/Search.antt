@@ -1,23 +1,23 @@
--- The search for the longest name: only names with the first letter that stands there are tried, letter by letter.
+-- The search for the longest name: only names with the first two letters that stand there are tried, letter by letter.
 use Prim.Native.Nat.{ℕ, suc, _+_, _*_, _/_, _%_, _≤_, _<_}
-use mathlib.Core.Bool.{Bool, true, false, true≢false}
+use mathlib.Core.Bool.{Bool, true, false, _&&_, true≢false, and-eq-true-iff}
 use mathlib.Core.List.{List, [], _∷_}
 use mathlib.Core.Path.{_≡_, refl, sym, ap, _∙_}
 use native.Mathlib.Omega.{arith}
 use native.Mathlib.Nat.{add-zero, add-assoc}
 use native.Mathlib.Numerals.{add-one}
 use native.Mathlib.Decide.{decLt}
-use borrow.Author.Tests.{eq-eqb, ne-eqb, eqb-true, eqb-false}
-use lib.Dec.{eqb}
+use borrow.Author.Tests.{eq-eqb, ne-eqb, eqb-true, eqb-false, leb-true}
+use lib.Dec.{eqb, leb}
 use lib.ListN.{length, getD, drop, drop-of-length-le, List·getD-eq-default}
 use lib.Seq.{drop-cons}
 use Rattle.names.specs.Tests.{if_then_else_, within}
 use Rattle.names.specs.Read.{Read, got, none, refused, Reader, follow, nothing, pure, one}
 use Rattle.names.specs.Texts.{allOf}
 use Rattle.names.specs.Names.{Row, Word, names, spelledSo, lower, letter, firstOf, word}
-use Rattle.names.specs.Table.{begins, beginning, padded}
+use Rattle.names.specs.Table.{key, keyOf, beginning, told, packed, rowOf, padded}
 use Rattle.names.proofs.Laws.{one-got, one-other, one-past, inside, within-true, within-below, within-above}
-use Rattle.names.proofs.Rows.{nobody, all-good, names-good, Good, good-split, name-good, row-at, row-end, letter-at, letters-end, letter-some, mark-at, allBelow, below, empty, empty-is}
+use Rattle.names.proofs.Rows.{nobody, plain, opens, all-good, names-good, Good, good-split, Found, name-found, row-at, row-end, letter-some, digits}
 
 -- a small letter's small letter is itself
 lower-twice : (b : ℕ) → lower (lower b) ≡ lower b
@@ -32,6 +32,11 @@ lower-twice b = go (decLt b 65) (decLt 90 b)
     go (no p) (yes q) = same (within-above 65 90 b (omega arith) q)
     go (no p) (no q) = rw (within-true 65 90 b (omega arith) (omega arith), within-above 65 90 (b + 32) (omega arith) (omega arith))
 
+-- a byte below the letters is its own small letter
+lower-low : (b : ℕ) → b < 65 → lower b ≡ b
+unfolding lower
+lower-low b h = rw (within-below 65 90 b h)
+
 -- a letter that counts as x has the small letter of x
 letter-lower : (kind b x : ℕ) → letter kind b ≡ x → lower x ≡ lower b
 unfolding letter
@@ -42,13 +47,25 @@ letter-lower kind b x e = go (spelledSo kind) e
     go false q = ap lower (sym q) ∙ lower-twice b
 
 -- where another letter stands, a name does not
+other-first : (s : List ℕ) (i kind x : ℕ) → eqb (lower x) (lower (getD s i 0)) ≡ false → one (λ b. eqb (letter kind b) x) s i ≡ none
+other-first s i kind x e = go (decLt i (length s))
+  where
+    go : Dec (i < length s) → one (λ b. eqb (letter kind b) x) s i ≡ none
+    go (yes h) = one-other _ s i h (ne-eqb _ x (λ q. eqb-false _ _ e (letter-lower kind (getD s i 0) x q)))
+    go (no h) = one-past _ s i (omega arith)
+
 module _ (s : List ℕ) (i : ℕ) where
-  other-first : (kind x : ℕ) → eqb (lower x) (lower (getD s i 0)) ≡ false → one (λ b. eqb (letter kind b) x) s i ≡ none
-  other-first kind x e = go (decLt i (length s))
+  -- a letter, and then another
+  second : (kind x : ℕ) (next : Reader (Unit {0})) → next s (i + 1) ≡ none → follow s i (one (λ b. eqb (letter kind b) x) s i) (λ _. next) nothing ≡ none
+  second kind x next e = go (decLt i (length s))
     where
-      go : Dec (i < length s) → one (λ b. eqb (letter kind b) x) s i ≡ none
-      go (yes h) = one-other _ s i h (ne-eqb _ x (λ q. eqb-false _ _ e (letter-lower kind (getD s i 0) x q)))
-      go (no h) = one-past _ s i (omega arith)
+      try : i < length s → (t : Bool) → eqb (letter kind (getD s i 0)) x ≡ t → follow s i (one (λ b. eqb (letter kind b) x) s i) (λ _. next) nothing ≡ none
+      try h true q = rw (one-got (λ b. eqb (letter kind b) x) s i h q) e
+      try h false q = rw (one-other (λ b. eqb (letter kind b) x) s i h q)
+
+      go : Dec (i < length s) → follow s i (one (λ b. eqb (letter kind b) x) s i) (λ _. next) nothing ≡ none
+      go (yes h) = try h (eqb (letter kind (getD s i 0)) x) refl
+      go (no h) = rw (one-past (λ b. eqb (letter kind b) x) s i (omega arith))
 
   -- what stands here goes on alike
   else-same : {A B : Type 0} (r : Read A) (f : A → Reader B) (n m : Reader B) → n s i ≡ m s i → follow s i r f n ≡ follow s i r f m
@@ -56,22 +73,55 @@ module _ (s : List ℕ) (i : ℕ) where
   else-same none f n m e = e
   else-same (refused k p) f n m e = refl
 
-  -- letters of which the first is another
-  other-letters : (kind : ℕ) (xs : List ℕ) → 1 ≤ length xs → begins (lower (getD s i 0)) xs ≡ false → allOf (letter kind) xs s i ≡ none
-  unfolding allOf
-  other-letters kind [] h e = absurd (omega arith)
-  other-letters kind (x ∷ xs) h e = rw (other-first kind x e)
+  -- the two letters that stand here
+  abbrev pub here : ℕ
+  here = key (lower (getD s i 0)) (lower (getD s (i + 1) 0))
 
-  -- of names only those that begin with the letter that stands here count
-  only-beginning : (rs : List Row) → all-good rs ≡ true → firstOf rs s i ≡ firstOf (beginning (lower (getD s i 0)) rs) s i
+  -- letters that do not begin with the two that stand here
+  other-letters : (kind : ℕ) (xs : List ℕ) → opens kind xs ≡ true → eqb (keyOf xs) here ≡ false → allOf (letter kind) xs s i ≡ none
+  unfolding allOf opens keyOf
+  other-letters kind [] h e = absurd (true≢false (sym h))
+  other-letters kind (x ∷ []) h e = absurd (true≢false (sym h))
+  other-letters kind (x ∷ y ∷ xs) h e = go (eqb (lower x) (lower (getD s i 0))) refl (eqb (lower y) (lower (getD s (i + 1) 0))) refl
+    where
+      later : eqb (lower y) (lower (getD s (i + 1) 0)) ≡ false → allOf (letter kind) (y ∷ xs) s (i + 1) ≡ none
+      later q = rw (other-first s (i + 1) kind y q)
+
+      go : (t : Bool) → eqb (lower x) (lower (getD s i 0)) ≡ t → (u : Bool) → eqb (lower y) (lower (getD s (i + 1) 0)) ≡ u → allOf (letter kind) (x ∷ y ∷ xs) s i ≡ none
+      go false p u q = rw (other-first s i kind x p)
+      go true p false q = second kind x (allOf (letter kind) (y ∷ xs)) (later q)
+      go true p true q = absurd (eqb-false (key (lower x) (lower y)) here e (omega (arith, eqb-true (lower x) (lower (getD s i 0)) p, eqb-true (lower y) (lower (getD s (i + 1) 0)) q)))
+
+  -- of names only those that begin with the letters that stand here count
+  only-beginning : (rs : List Row) → all-good rs ≡ true → firstOf rs s i ≡ firstOf (beginning here rs) s i
   unfolding firstOf beginning
   only-beginning [] e = refl
-  only-beginning (r ∷ rs) e = go (begins (lower (getD s i 0)) (r .0)) refl (only-beginning rs (good-split r rs e .1))
+  only-beginning (r ∷ rs) e = go (eqb (keyOf (r .0)) here) refl (only-beginning rs (good-split r rs e .1))
     where
-      go : (t : Bool) → begins (lower (getD s i 0)) (r .0) ≡ t → firstOf rs s i ≡ firstOf (beginning (lower (getD s i 0)) rs) s i →
-          firstOf (r ∷ rs) s i ≡ firstOf (if t then r ∷ beginning (lower (getD s i 0)) rs else beginning (lower (getD s i 0)) rs) s i
+      go : (t : Bool) → eqb (keyOf (r .0)) here ≡ t → firstOf rs s i ≡ firstOf (beginning here rs) s i →
+          firstOf (r ∷ rs) s i ≡ firstOf (if t then r ∷ beginning here rs else beginning here rs) s i
       go true q h = else-same (allOf (letter (r .1 .0)) (r .0) s i) _ _ _ h
-      go false q h = rw (other-letters (r .1 .0) (r .0) (good-split r rs e .0 .some) q) h
+      go false q h = rw (other-letters (r .1 .0) (r .0) (good-split r rs e .0 .begun) q) h
+
+  -- no name begins with a byte below the letters
+  module _ (h : getD s i 0 < 65) where
+    below-letters : (kind : ℕ) (xs : List ℕ) → opens kind xs ≡ true → allOf (letter kind) xs s i ≡ none
+    unfolding allOf opens
+    below-letters kind [] e = absurd (true≢false (sym e))
+    below-letters kind (x ∷ []) e = absurd (true≢false (sym e))
+    below-letters kind (x ∷ y ∷ xs) e =
+        let f = leb-true 65 (lower x) (and-eq-true-iff (leb 65 (lower x)) (if spelledSo kind then true else eqb (lower x) x && eqb (lower y) y) .0 e .0) in
+        let l = lower-low (getD s i 0) h in
+        rw (other-first s i kind x (ne-eqb (lower x) (lower (getD s i 0)) (λ q. omega (arith, f, l))))
+
+    none-first : (rs : List Row) → all-good rs ≡ true → firstOf rs s i ≡ none
+    unfolding firstOf
+    none-first [] e = refl
+    none-first (r ∷ rs) e = rw (below-letters (r .1 .0) (r .0) (good-split r rs e .0 .begun)) (none-first rs (good-split r rs e .1))
+
+    pub no-word : word s i ≡ none
+    unfolding word
+    no-word = none-first names names-good
 
 -- the value of a name is at most 12
 value-small : (rs : List Row) → all-good rs ≡ true → (s : List ℕ) (i : ℕ) {v : Word} {j : ℕ} → firstOf rs s i ≡ got v j → v .1 ≤ 12
@@ -90,40 +140,19 @@ word-small s i e = value-small names names-good s i e
 
 -- those of the names that can stand here
 abbrev pub nearby : List ℕ → ℕ → List Row
-nearby s i = beginning (lower (getD s i 0)) names
+nearby s i = beginning (here s i) names
 
 pub word-nearby : (s : List ℕ) (i : ℕ) → word s i ≡ firstOf (nearby s i) s i
 unfolding word
 word-nearby s i = only-beginning s i names names-good
 
--- no name begins with 0
-none-begins : beginning (lower 0) names ≡ []
-unfolding beginning names lower within
-none-begins = refl
-
--- nor with any byte below the letters
-below-letters : ℕ → Bool
-below-letters b = empty (beginning (lower b) names)
-
-none-below : allBelow 65 below-letters ≡ true
-unfolding allBelow below-letters empty beginning names lower within
-none-below = refl
-
-pub no-word : (s : List ℕ) (i : ℕ) → getD s i 0 < 65 → word s i ≡ none
-unfolding below-letters firstOf
-no-word s i h = word-nearby s i ∙ ap (λ (rs : List Row). firstOf rs s i) (empty-is (nearby s i) (below 65 below-letters none-below (getD s i 0) h))
-
--- so where a name stands, its first byte is no digit and no sign
+-- where a name stands, its first byte is no digit and no sign
 pub word-letter : (s : List ℕ) (i : ℕ) {v : Word} {j : ℕ} → word s i ≡ got v j → 65 ≤ getD s i 0
 word-letter s i {v} {j} e = go (decLt (getD s i 0) 65)
   where
     go : Dec (getD s i 0 < 65) → 65 ≤ getD s i 0
     go (yes h) = let q = no-word s i h in absurd (let z : _≡_ {A = ℕ} 0 1 = cc in omega arith)
     go (no h) = omega arith
-
--- where there are any, the place stands in the text
-pub nearby-inside : (s : List ℕ) (i : ℕ) → 1 ≤ length (nearby s i) → i < length s
-nearby-inside s i h = inside s i (λ e. omega (arith, ap (λ (b : ℕ). length (beginning (lower b) names)) e ∙ ap length none-begins))
 
 -- letters from letter j on: the next stands here, or another
 module _ (f : ℕ → ℕ) (xs : List ℕ) (s : List ℕ) (i j : ℕ) (h : j < length xs) where
@@ -159,37 +188,56 @@ letter-zero kind = go (spelledSo kind)
 abbrev pub Left : List ℕ → ℕ → ℕ → Type 0
 Left s i k = (k ≤ length (nearby s i)) × (word s i ≡ firstOf (drop k (nearby s i)) s i)
 
--- what is left to search: the letters of name k from letter j on, and the names behind it
-abbrev pub Within : List ℕ → ℕ → ℕ → ℕ → Type 0
-Within s i k j =
+-- name k stands here up to letter j: its letters from there on, and the names behind it, are left to search
+abbrev pub Stood : List ℕ → ℕ → ℕ → ℕ → Type 0
+Stood s i k j =
     let r = getD (nearby s i) k nobody in
     (i + j ≤ length s) × (word s i ≡ follow s i (allOf (letter (r .1 .0)) (drop j (r .0)) s (i + j)) (λ _. pure (r .1)) (firstOf (drop (k + 1) (nearby s i))))
 
+-- so, where those letters are this number
+abbrev pub Within : List ℕ → ℕ → ℕ → ℕ → ℕ → Type 0
+Within s i k j rest = Stood s i k j × (rest ≡ packed (drop j (getD (nearby s i) k nobody .0)))
+
+-- the first two letters of a name that takes any case, where letters stand that tell them
+two-stand : (s : List ℕ) (i kind : ℕ) (xs : List ℕ) → spelledSo kind ≡ false → opens kind xs ≡ true → keyOf xs ≡ here s i → plain xs ≡ true → lower (getD s (i + 1) 0) ≤ 255 →
+    (2 ≤ length xs) × (letter kind (getD s i 0) ≡ getD xs 0 0) × (letter kind (getD s (i + 1) 0) ≡ getD xs 1 0)
+unfolding opens keyOf letter
+two-stand s i kind [] n o e a b = absurd (true≢false (sym o))
+two-stand s i kind (x ∷ []) n o e a b = absurd (true≢false (sym o))
+two-stand s i kind (x ∷ y ∷ xs) n o e a b =
+    let same = and-eq-true-iff (eqb (lower x) x) (eqb (lower y) y) .0 (rw (n) at (and-eq-true-iff (leb 65 (lower x)) (if spelledSo kind then true else eqb (lower x) x && eqb (lower y) y) .0 o .1)) in
+    let p = eqb-true (lower x) x (same .0) in
+    let q = eqb-true (lower y) y (same .1) in
+    let y-small = letter-some (x ∷ y ∷ xs) a 1 (omega arith) .1 in
+    (omega arith, rw (n) (omega (arith, p, q, y-small)), rw (n) (omega (arith, p, q, y-small)))
+
 -- the table t of the code, where it tries row k
-pub record Tries (s : List ℕ) (i k : ℕ) (t : List (List ℕ)) : Type 0 where
+pub record Tries (s : List ℕ) (i k : ℕ) (t : List ℕ) : Type 0 where
   pub is : t ≡ padded (nearby s i)
-  pub few : length (nearby s i) ≤ 6
+  pub few : length (nearby s i) ≤ 3
+  pub start : i < length s
+  pub second : lower (getD s (i + 1) 0) ≤ 255
   pub left : Left s i k
 
-module _ {s : List ℕ} {i k : ℕ} {t : List (List ℕ)} (w : Tries s i k t) where
+module _ {s : List ℕ} {i k : ℕ} {t : List ℕ} (w : Tries s i k t) where
   -- name k
   abbrev r : Row
   r = getD (nearby s i) k nobody
 
-  marked : k < length (nearby s i) → getD (getD t k []) 7 0 ≡ r .1 .0 * 16 + r .1 .1
-  marked h = rw (w .is, row-at (nearby s i) k h) (mark-at r (name-good _ k h))
+  row-is : k < length (nearby s i) → getD t k 0 ≡ rowOf r
+  row-is h = rw (w .is) (row-at (nearby s i) k h)
 
-  -- a row without a mark: no name is left
-  pub over : getD (getD t k []) 7 0 ≡ 0 → word s i ≡ none
+  -- no row: no name is left
+  pub over : getD t k 0 ≡ 0 → word s i ≡ none
   unfolding firstOf
   over e = w .left .1 ∙ rw (drop-of-length-le (nearby s i) (go (decLt k (length (nearby s i)))))
     where
       go : Dec (k < length (nearby s i)) → length (nearby s i) ≤ k
-      go (yes h) = absurd (omega (arith, marked h, name-good _ k h .kind))
+      go (yes h) = absurd (omega (arith, row-is h, name-found _ k h .good .kind))
       go (no h) = omega arith
 
-  -- a row with a mark is a name's
-  module _ (m : getD (getD t k []) 7 0 ≡ 0 → ⊥) where
+  -- a row is a name's
+  module _ (m : getD t k 0 ≡ 0 → ⊥) where
     near : k < length (nearby s i)
     near = go (decLt k (length (nearby s i)))
       where
@@ -197,53 +245,77 @@ module _ {s : List ℕ} {i k : ℕ} {t : List (List ℕ)} (w : Tries s i k t) wh
         go (yes h) = h
         go (no h) = absurd (m (let e : k ≡ length (nearby s i) = omega (arith, w .left .0) in rw (w .is, e, row-end (nearby s i) (w .few))))
 
-    good-name : Good r
-    good-name = name-good _ k near
+    found : Found (here s i) r
+    found = name-found _ k near
 
-    -- its letters are tried
-    pub enter : Within s i k 0
+    name-is : Good r
+    name-is = found .good
+
+    -- its mark, its kind, and its letters
+    parts : (getD t k 0 % 256 ≡ r .1 .0 * 16 + r .1 .1) × (getD t k 0 / 256 ≡ packed (drop (told (r .1 .0)) (r .0)))
+    parts = rw (row-is near) (digits _ _ (omega (arith, name-is .kinds, name-is .value)))
+
+    pub mark-is : (getD t k 0 % 256 / 16, getD t k 0 % 256 % 16) ≡ r .1
+    mark-is = rw (parts .0) (halves _ _ (name-is .value))
+
+    pub kind-is : getD t k 0 % 256 / 16 ≡ r .1 .0
+    kind-is = ap (λ (x : Word). x .0) mark-is
+
+    -- one letter more stands here
+    further : (j : ℕ) → j < length (r .0) → Stood s i k j → letter (r .1 .0) (getD s (i + j) 0) ≡ getD (r .0) j 0 → Stood s i k (j + 1)
+    further j l p e =
+        let n = inside s (i + j) (λ z. omega (arith, letter-some _ (name-is .letters) j l, sym e ∙ ap (letter (r .1 .0)) z ∙ letter-zero (r .1 .0))) in
+        (omega arith, p .1 ∙ rw (next-letter (letter (r .1 .0)) (r .0) s i j l n e))
+
+    -- none of its letters so far
+    begun : Stood s i k 0
     unfolding firstOf
-    enter = (omega (arith, nearby-inside s i (omega (arith, near))), w .left .1 ∙ rw (drop-cons (nearby s i) k nobody near, add-one k, add-zero i))
+    begun = (omega (arith, w .start), w .left .1 ∙ rw (drop-cons (nearby s i) k nobody near, add-one k, add-zero i))
 
-    mark-is : (getD (getD t k []) 7 0 / 16, getD (getD t k []) 7 0 % 16) ≡ r .1
-    mark-is = rw (marked near) (halves _ _ (good-name .value))
+    -- those of its letters that its key tells
+    told-stand : Stood s i k (told (r .1 .0))
+    unfolding told
+    told-stand = go (spelledSo (r .1 .0)) refl
+      where
+        go : (t : Bool) → spelledSo (r .1 .0) ≡ t → Stood s i k (if t then 0 else 2)
+        go true q = begun
+        go false q =
+            let h = two-stand s i (r .1 .0) (r .0) q (name-is .begun) (found .keyed) (name-is .letters) (w .second) in
+            further 1 (omega (arith, h .0)) (further 0 (omega (arith, h .0)) begun (rw (add-zero i) (h .1))) (h .2)
 
-    letter-is : (j : ℕ) → j < length (r .0) → getD (getD t k []) j 0 ≡ getD (r .0) j 0
-    letter-is j l = rw (w .is, row-at (nearby s i) k near) (letter-at r good-name j l)
+    -- its other letters are tried
+    pub enter : Within s i k (told (getD t k 0 % 256 / 16)) (getD t k 0 / 256)
+    enter = rw (kind-is) (told-stand, parts .1)
 
-    module _ (j : ℕ) (p : Within s i k j) where
+    module _ (j rest : ℕ) (p : Within s i k j rest) where
       -- all its letters stand here
-      whole : length (r .0) ≤ j → word s i ≡ got (getD (getD t k []) 7 0 / 16, getD (getD t k []) 7 0 % 16) (i + j)
-      unfolding allOf
-      whole h = p .1 ∙ rw (drop-of-length-le (r .0) h, mark-is)
-
-      pub seven : j ≡ 7 → word s i ≡ got (getD (getD t k []) 7 0 / 16, getD (getD t k []) 7 0 % 16) (i + j)
-      seven e = whole (omega (arith, good-name .short))
-
-      pub ended : getD (getD t k []) j 0 ≡ 0 → word s i ≡ got (getD (getD t k []) 7 0 / 16, getD (getD t k []) 7 0 % 16) (i + j)
-      ended e = whole (go (decLt j (length (r .0))))
+      pub ended : rest ≡ 0 → word s i ≡ got (getD t k 0 % 256 / 16, getD t k 0 % 256 % 16) (i + j)
+      unfolding allOf packed
+      ended e = p .0 .1 ∙ rw (drop-of-length-le (r .0) (go (decLt j (length (r .0)))), mark-is)
         where
           go : Dec (j < length (r .0)) → length (r .0) ≤ j
-          go (yes l) = absurd (omega (arith, letter-is j l, letter-some _ (good-name .letters) j l))
+          go (yes l) = absurd (omega (arith, p .1 ∙ ap packed (drop-cons (r .0) j 0 l), letter-some _ (name-is .letters) j l))
           go (no l) = omega arith
 
       -- there is a letter more
-      module _ (q : j < 7) (n : getD (getD t k []) j 0 ≡ 0 → ⊥) where
+      module _ (n : rest ≡ 0 → ⊥) where
         more : j < length (r .0)
+        unfolding packed
         more = go (decLt j (length (r .0)))
           where
             go : Dec (j < length (r .0)) → j < length (r .0)
             go (yes l) = l
-            go (no l) = absurd (n (rw (w .is, row-at (nearby s i) k near) (letters-end r good-name j (omega arith) q)))
+            go (no l) = absurd (n (p .1 ∙ ap packed (drop-of-length-le (r .0) {i = j} (omega arith))))
+
+        next : (rest % 256 ≡ getD (r .0) j 0) × (rest / 256 ≡ packed (drop (j + 1) (r .0)))
+        unfolding packed
+        next = rw (p .1, drop-cons (r .0) j 0 more, add-one j) (digits _ _ (letter-some _ (name-is .letters) j more .1))
 
         -- it stands here
-        pub same : letter (getD (getD t k []) 7 0 / 16) (getD s (i + j) 0) ≡ getD (getD t k []) j 0 → Within s i k (j + 1)
-        same e =
-            let f : letter (r .1 .0) (getD s (i + j) 0) ≡ getD (r .0) j 0 = ap (λ (x : Word). letter (x .0) (getD s (i + j) 0)) (sym mark-is) ∙ e ∙ letter-is j more in
-            let l = inside s (i + j) (λ z. n (sym e ∙ ap (letter (getD (getD t k []) 7 0 / 16)) z ∙ letter-zero (getD (getD t k []) 7 0 / 16))) in
-            (omega arith, p .1 ∙ rw (next-letter (letter (r .1 .0)) (r .0) s i j more l f))
+        pub same : letter (getD t k 0 % 256 / 16) (getD s (i + j) 0) ≡ rest % 256 → Within s i k (j + 1) (rest / 256)
+        same e = (further j more (p .0) (ap (λ (x : ℕ). letter x (getD s (i + j) 0)) (sym kind-is) ∙ e ∙ next .0), next .1)
 
         -- another stands here: the next name
-        pub other : (letter (getD (getD t k []) 7 0 / 16) (getD s (i + j) 0) ≡ getD (getD t k []) j 0 → ⊥) → Left s i (k + 1)
+        pub other : (letter (getD t k 0 % 256 / 16) (getD s (i + j) 0) ≡ rest % 256 → ⊥) → Left s i (k + 1)
         other e =
-            (omega (arith, near), p .1 ∙ rw (other-letter (letter (r .1 .0)) (r .0) s i j more (λ f. e (ap (λ (x : Word). letter (x .0) (getD s (i + j) 0)) mark-is ∙ f ∙ sym (letter-is j more)))))
+            (omega (arith, near), p .0 .1 ∙ rw (other-letter (letter (r .1 .0)) (r .0) s i j more (λ f. e (ap (λ (x : ℕ). letter x (getD s (i + j) 0)) kind-is ∙ f ∙ sym (next .0)))))

@@ -1,34 +1,43 @@
--- The names as the code lays them out, by first letter.
+-- The names as the code lays them out, by their first two letters.
 use Prim.Native.Nat.{ℕ, _+_, _-_, _*_}
 use mathlib.Core.List.{List, [], _∷_, _++_, map}
-use mathlib.Core.Bool.{Bool, false}
 use lib.Dec.{eqb}
-use lib.ListN.{length, replicate}
+use lib.ListN.{length, replicate, drop}
 use Rattle.names.specs.Tests.{if_then_else_}
-use Rattle.names.specs.Names.{Row, names, lower}
+use Rattle.names.specs.Names.{Row, names, lower, spelledSo}
 
--- whether letters begin with b, a capital as its small letter
-abbrev pub begins : ℕ → List ℕ → Bool
-begins b [] = false
-begins b (x ∷ xs) = eqb (lower x) b
+-- two letters as one number
+abbrev pub key : ℕ → ℕ → ℕ
+key b c = b * 256 + c
 
--- those of the names that begin with b
+-- the first two of a name's letters, a capital as its small letter
+unfoldable pub keyOf : List ℕ → ℕ
+keyOf (x ∷ y ∷ xs) = key (lower x) (lower y)
+keyOf (x ∷ []) = 0
+keyOf [] = 0
+
+-- those of the names that begin so
 unfoldable pub beginning : ℕ → List Row → List Row
-beginning b [] = []
-beginning b (r ∷ rs) = if begins b (r .0) then r ∷ beginning b rs else beginning b rs
+beginning k [] = []
+beginning k (r ∷ rs) = if eqb (keyOf (r .0)) k then r ∷ beginning k rs else beginning k rs
 
--- a list, and z up to n of them
-abbrev pub padTo : {A : Type 0} → ℕ → A → List A → List A
-padTo n z xs = xs ++ replicate (n - length xs) z
+-- how many letters of a name of this kind its first two letters tell: none where a capital and its small letter are not the same
+unfoldable pub told : ℕ → ℕ
+told kind = if spelledSo kind then 0 else 2
 
--- a name's letters, zeros up to seven, and 16 times its kind with which of its kind it is
-abbrev pub rowOf : Row → List ℕ
-rowOf r = padTo 7 0 (r .0) ++ ((r .1 .0 * 16 + r .1 .1) ∷ [])
+-- letters as a number in base 256, the last of them foremost
+unfoldable pub packed : List ℕ → ℕ
+packed [] = 0
+packed (x ∷ xs) = packed xs * 256 + x
 
--- the rows of these names, and rows of zeros up to seven rows
-abbrev pub padded : List Row → List (List ℕ)
-padded rs = padTo 7 (replicate 8 0) (map rowOf rs)
+-- a name's letters that are left to tell, and behind them 16 times its kind with which of its kind it is
+abbrev pub rowOf : Row → ℕ
+rowOf r = packed (drop (told (r .1 .0)) (r .0)) * 256 + (r .1 .0 * 16 + r .1 .1)
 
--- the rows of the names that begin with b
-unfoldable pub rowsOf : ℕ → List (List ℕ)
-rowsOf b = padded (beginning b names)
+-- the rows of these names, and zeros up to four rows
+abbrev pub padded : List Row → List ℕ
+padded rs = map rowOf rs ++ replicate (4 - length rs) 0
+
+-- the rows of the names that begin so
+unfoldable pub rowsOf : ℕ → List ℕ
+rowsOf k = padded (beginning k names)

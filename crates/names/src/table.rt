@@ -1,7 +1,7 @@
 // The names, and the search for the longest one that stands at a place (`build_wday`, `build_month` and the names of the Rust's grammar).
 ghost use mathlib.Core.Path.{_≡_};
 ghost use Rattle.names.specs.Names as names;
-ghost use Rattle.names.specs.Table.{rowsOf};
+ghost use Rattle.names.specs.Table as table;
 ghost use Rattle.names.specs.Seen.{Reads, seenWord};
 use crate::Cursor;
 use crate::Num;
@@ -24,132 +24,55 @@ pub const WEEK: u8 = 7;
 
 pub const DAY: u8 = 8;
 
-// A row is a name's letters, zeros up to seven, and one byte: 16 times its kind, and which of its kind it is.
-// No name.
-const NONE: [u8; 8] = [0; 8];
-
-// The names by first letter, a capital as its small letter, the longest first; then no names, seven rows in all.
-const A_NAMES: [[u8; 8]; 7] = [
-    *b"apr\0\0\0\0\x24",
-    *b"aug\0\0\0\0\x28",
-    NONE,
-    NONE,
-    NONE,
-    NONE,
-    NONE,
-];
-
-const C_NAMES: [[u8; 8]; 7] = [*b"closed\0\x51", NONE, NONE, NONE, NONE, NONE, NONE];
-
-const D_NAMES: [[u8; 8]; 7] = [
-    *b"dawn\0\0\0\x31",
-    *b"dusk\0\0\0\x34",
-    *b"days\0\0\0\x80",
-    *b"dec\0\0\0\0\x2c",
-    *b"day\0\0\0\0\x80",
-    NONE,
-    NONE,
-];
-
-const E_NAMES: [[u8; 8]; 7] = [*b"easter\0\x40", NONE, NONE, NONE, NONE, NONE, NONE];
-
-const F_NAMES: [[u8; 8]; 7] = [
-    *b"feb\0\0\0\0\x22",
-    *b"fr\0\0\0\0\0\x15",
-    NONE,
-    NONE,
-    NONE,
-    NONE,
-    NONE,
-];
-
-const J_NAMES: [[u8; 8]; 7] = [
-    *b"jan\0\0\0\0\x21",
-    *b"jun\0\0\0\0\x26",
-    *b"jul\0\0\0\0\x27",
-    NONE,
-    NONE,
-    NONE,
-    NONE,
-];
-
-const M_NAMES: [[u8; 8]; 7] = [
-    *b"mar\0\0\0\0\x23",
-    *b"may\0\0\0\0\x25",
-    *b"mo\0\0\0\0\0\x11",
-    NONE,
-    NONE,
-    NONE,
-    NONE,
-];
-
-const N_NAMES: [[u8; 8]; 7] = [*b"nov\0\0\0\0\x2b", NONE, NONE, NONE, NONE, NONE, NONE];
-
-const O_NAMES: [[u8; 8]; 7] = [
-    *b"open\0\0\0\x50",
-    *b"oct\0\0\0\0\x2a",
-    *b"off\0\0\0\0\x51",
-    NONE,
-    NONE,
-    NONE,
-    NONE,
-];
-
-const P_NAMES: [[u8; 8]; 7] = [*b"PH\0\0\0\0\0\x61", NONE, NONE, NONE, NONE, NONE, NONE];
-
-const S_NAMES: [[u8; 8]; 7] = [
-    *b"sunrise\x32",
-    *b"sunset\0\x33",
-    *b"sep\0\0\0\0\x29",
-    *b"sa\0\0\0\0\0\x16",
-    *b"su\0\0\0\0\0\x17",
-    *b"SH\0\0\0\0\0\x62",
-    NONE,
-];
-
-const T_NAMES: [[u8; 8]; 7] = [
-    *b"tu\0\0\0\0\0\x12",
-    *b"th\0\0\0\0\0\x14",
-    NONE,
-    NONE,
-    NONE,
-    NONE,
-    NONE,
-];
-
-const U_NAMES: [[u8; 8]; 7] = [*b"unknown\x52", NONE, NONE, NONE, NONE, NONE, NONE];
-
-const W_NAMES: [[u8; 8]; 7] = [
-    *b"week\0\0\0\x70",
-    *b"we\0\0\0\0\0\x13",
-    NONE,
-    NONE,
-    NONE,
-    NONE,
-    NONE,
-];
-
-// The rows of the names whose first letter is b.
-fn rows(b: u8) -> [[u8; 8]; 7]
-    ensures { λ r. ⌜ r ≡ rowsOf b ⌝ }
+// Two letters as one number.
+fn key(b: u8, c: u8) -> u16
+    ensures { λ r. ⌜ r ≡ table.key b c ⌝ }
 {
-    match b {
-        b'a' => A_NAMES,
-        b'c' => C_NAMES,
-        b'd' => D_NAMES,
-        b'e' => E_NAMES,
-        b'f' => F_NAMES,
-        b'j' => J_NAMES,
-        b'm' => M_NAMES,
-        b'n' => N_NAMES,
-        b'o' => O_NAMES,
-        b'p' => P_NAMES,
-        b's' => S_NAMES,
-        b't' => T_NAMES,
-        b'u' => U_NAMES,
-        b'w' => W_NAMES,
-        _ => [NONE; 7],
+    b as u16 * 256 + c as u16
+}
+
+// A row is a number in base 256: 16 times a name's kind and which of its kind it is, then its letters, the last of them foremost.
+// A name that takes any case has no letters here of those that its key has told.
+// The rows of the names whose first two letters, a capital as its small letter, are this number in base 256; the longest first, then zeros.
+fn rows(key: u16) -> [u64; 4]
+    ensures { λ r. ⌜ r ≡ table.rowsOf key ⌝ }
+{
+    match key {
+        0x6170 => [0x72_24, 0, 0, 0], // apr
+        0x6175 => [0x67_28, 0, 0, 0], // aug
+        0x636c => [0x64_65_73_6f_51, 0, 0, 0], // closed
+        0x6461 => [0x6e_77_31, 0x73_79_61_64_80, 0x79_61_64_80, 0], // dawn, days, day
+        0x6465 => [0x63_2c, 0, 0, 0], // dec
+        0x6475 => [0x6b_73_34, 0, 0, 0], // dusk
+        0x6561 => [0x72_65_74_73_40, 0, 0, 0], // easter
+        0x6665 => [0x62_22, 0, 0, 0], // feb
+        0x6672 => [0x15, 0, 0, 0], // fr
+        0x6a61 => [0x6e_21, 0, 0, 0], // jan
+        0x6a75 => [0x6e_26, 0x6c_27, 0, 0], // jun, jul
+        0x6d61 => [0x72_23, 0x79_25, 0, 0], // mar, may
+        0x6d6f => [0x11, 0, 0, 0], // mo
+        0x6e6f => [0x76_2b, 0, 0, 0], // nov
+        0x6f63 => [0x74_2a, 0, 0, 0], // oct
+        0x6f66 => [0x66_51, 0, 0, 0], // off
+        0x6f70 => [0x6e_65_50, 0, 0, 0], // open
+        0x7068 => [0x48_50_61, 0, 0, 0], // PH
+        0x7361 => [0x16, 0, 0, 0], // sa
+        0x7365 => [0x70_29, 0, 0, 0], // sep
+        0x7368 => [0x48_53_62, 0, 0, 0], // SH
+        0x7375 => [0x65_73_69_72_6e_32, 0x74_65_73_6e_33, 0x17, 0], // sunrise, sunset, su
+        0x7468 => [0x14, 0, 0, 0], // th
+        0x7475 => [0x12, 0, 0, 0], // tu
+        0x756e => [0x6e_77_6f_6e_6b_52, 0, 0, 0], // unknown
+        0x7765 => [0x6b_65_65_77_70, 0x13, 0, 0], // week, we
+        _ => [0; 4],
     }
+}
+
+// How many letters of a name of this kind its key has told.
+fn told(kind: u8) -> usize
+    ensures { λ r. ⌜ r ≡ table.told kind ⌝ }
+{
+    if HOLIDAY <= kind { 0 } else { 2 }
 }
 
 // The small letter of a capital.
@@ -176,27 +99,30 @@ impl Cursor {
         ensures { λ r. ⌜ names.word (now (s .entry)) (self .at) ≡ seenWord r ⌝ }
     {
         let at = self.at;
-        let table = rows(lower(self.byte(s)));
+        let first = self.byte(s);
+        // No name begins with a digit or a sign, nor at the text's end.
+        if first < 65 {
+            return Word::Missing;
+        }
+        let table = rows(key(lower(first), lower(Cursor { at: at + 1 }.byte(s))));
         let mut k: usize = 0;
         'names: loop {
             let row = table[k];
-            let mark = row[7];
-            if mark == 0 {
+            if row == 0 {
                 break Word::Missing;
             }
+            let mark = (row % 256) as u8;
             let kind = mark / 16;
-            let mut j: usize = 0;
+            let mut rest = row / 256;
+            let mut j = told(kind);
             loop {
-                if j == 7 {
+                if rest == 0 {
                     break 'names Word::Got(kind, mark % 16, Cursor { at: at + j });
                 }
-                let x = row[j];
-                if x == 0 {
-                    break 'names Word::Got(kind, mark % 16, Cursor { at: at + j });
-                }
-                if letter(kind, Cursor { at: at + j }.byte(s)) != x {
+                if letter(kind, Cursor { at: at + j }.byte(s)) != (rest % 256) as u8 {
                     break;
                 }
+                rest = rest / 256;
                 j += 1;
             }
             k += 1;

@@ -1,3 +1,4 @@
 pub mod Items
 pub mod Words
+pub mod Bytes
 pub mod Seen

@@ -1,8 +1,10 @@
 // What an item of a rule is, and the words of its record.
+mod bytes;
 mod judge;
 mod slots;
 mod words;
 
+pub use bytes::store_bytes;
 pub use judge::judged;
 use names::Cursor;
 pub use slots::store;

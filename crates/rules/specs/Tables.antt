@@ -7,6 +7,7 @@ use lib.ListN.{length}
 use lib.Seq.{sets}
 use Rattle.names.specs.Read.{Read, got, none, refused}
 use Rattle.records.specs.Words.{wordsOf}
+use Rattle.records.specs.Bytes.{recordBytes}
 use Rattle.rules.specs.Rules.{Rule}
 use Rattle.rules.specs.Heads.{headWords}
 
@@ -14,10 +15,27 @@ use Rattle.rules.specs.Heads.{headWords}
 abbrev pub ruleRecords : Rule → List (List ℤ)
 ruleRecords r = headWords (r .0) ∷ map wordsOf (r .1)
 
--- a table with these records written over it from slot k on, 16 words to a slot
-unfoldable pub overlay : List ℤ → ℕ → List (List ℤ) → List ℤ
-overlay t k [] = t
-overlay t k (r ∷ rs) = overlay (sets t (k * 16) r) (suc k) rs
+-- how records lie in a table: the cells of a record's words, and how many cells a slot has
+pub record Layout (A : Type 0) : Type 0 where
+  pub cells : List ℤ → List A
+  pub width : ℕ
+
+-- in a table of words: 16 to a record
+abbrev pub asWords : Layout ℤ
+asWords = record { cells = λ r. r; width = 16 }
+
+-- in a table of bytes: 64 to a record, each word little-endian
+abbrev pub asBytes : Layout ℕ
+asBytes = record { cells = recordBytes; width = 64 }
+
+-- a table with these records written over it from slot k on
+unfoldable pub laid : {A : Type 0} → Layout A → List A → ℕ → List (List ℤ) → List A
+laid d t k [] = t
+laid d t k (r ∷ rs) = laid d (sets t (k * d.width) (d.cells r)) (suc k) rs
+
+-- the same, 16 words to a slot
+abbrev pub overlay : List ℤ → ℕ → List (List ℤ) → List ℤ
+overlay = laid asWords
 
 -- a reading that found a value, of which P holds
 abbrev pub Holds : {A : Type 0} → (A → Type 0) → Read A → Type 0
@@ -25,10 +43,18 @@ Holds P (got a j) = P a
 Holds P none = ⊥
 Holds P (refused k p) = ⊥
 
--- a rule's records have room in a table from slot k on
+-- a rule's records have room in l cells, w to a slot, from slot k on
+abbrev pub RoomIn : ℕ → ℕ → ℕ → Read Rule → Type 0
+RoomIn w l k = Holds (λ r. (k + suc (length (r .1))) * w ≤ l)
+
+-- in a table of words
 abbrev pub Room : List ℤ → ℕ → Read Rule → Type 0
-Room t k = Holds (λ r. (k + suc (length (r .1))) * 16 ≤ length t)
+Room t = RoomIn 16 (length t)
 
 -- a table t with a rule's records written over it from slot k on
+abbrev pub FilledAs : {A : Type 0} → Layout A → List A → ℕ → List A → Read Rule → Type 0
+FilledAs d t k t′ = Holds (λ r. t′ ≡ laid d t k (ruleRecords r))
+
+-- of words
 abbrev pub Filled : List ℤ → ℕ → List ℤ → Read Rule → Type 0
-Filled t k t′ = Holds (λ r. t′ ≡ overlay t k (ruleRecords r))
+Filled = FilledAs asWords

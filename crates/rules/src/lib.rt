@@ -1,4 +1,5 @@
 // One rule: its pieces in order, its end, and its head.
+mod byte_rule;
 mod comments;
 mod firsts;
 mod heads;
@@ -8,6 +9,7 @@ mod pieces;
 mod rule;
 mod separators;
 
+pub use byte_rule::fill_rule_bytes;
 use names::Cursor;
 pub use rule::count_rule;
 pub use rule::fill_rule;

@@ -20,7 +20,7 @@ use records::store;
 use records::words_of;
 
 // The end of a rule that has n items: its head, and the place after it. Where it does not end here, no shape fits (3).
-fn ended(s: &[u8], spot: Spot, separator: u8, wide: Comment, n: usize) -> RuleRead
+pub fn ended(s: &[u8], spot: Spot, separator: u8, wide: Comment, n: usize) -> RuleRead
     ensures { λ r. ⌜ map (λ t. rules.headOf separator t wide n) (pieces.end (spot .stage)) (now (s .entry)) (spot .at) ≡ seenRule r ⌝ }
 {
     let last = spot.end(s);

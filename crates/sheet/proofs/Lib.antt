@@ -6,3 +6,4 @@ pub mod Readings
 pub mod Noted
 pub mod Apart
 pub mod PartLaws
+pub mod Bounds

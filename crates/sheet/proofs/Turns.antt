@@ -15,16 +15,14 @@ use Rattle.records.specs.Words.{wordsOf}
 use Rattle.rules.specs.Musts.{must}
 use Rattle.rules.specs.Pieces.{piece, end}
 use Rattle.rules.specs.Rules.{Rule, ruleOf, opening, behind, rule, counted, next}
-use Rattle.rules.specs.Tables.{ruleRecords, overlay, Holds, Filled}
-use Rattle.rules.specs.declared.Head.{Head}
+use Rattle.rules.specs.Tables.{Layout, ruleRecords, laid, Holds, RoomIn, FilledAs}
 use Rattle.rules.specs.declared.Opening.{Opening}
 use Rattle.rules.specs.declared.Next.{Next}
 use Rattle.rules.specs.declared.Next.the-variants.{Another, Finished}
 use Rattle.rules.proofs.Cut.{Found, found-then}
-use Rattle.rules.proofs.Fills.{holds-so, holds-map, holds-less, unrefused}
-use Rattle.sheet.specs.Texts.{movedTo, placed, afterRule, parted, moreRules, noMore, rules, records}
-use Rattle.sheet.specs.Seen.{countFrom, RoomFrom, fillFrom}
-use Rattle.sheet.specs.declared.Counted.{Counted}
+use Rattle.rules.proofs.Fills.{fewer, holds-map, holds-less}
+use Rattle.sheet.specs.Texts.{movedTo, afterRule, parted, moreRules, noMore, rules, records}
+use Rattle.sheet.specs.Seen.{countFrom, RoomFromIn, fillFromAs}
 use Rattle.sheet.specs.declared.Counted.the-variants.{Got, Refused}
 use Rattle.sheet.proofs.Moves.{takes, rules-are}
 
@@ -117,7 +115,7 @@ pub record Turned (separator : ℕ) (s : List ℕ) (i items : ℕ) (n : Next) (k
 
 module _ (separator : ℕ) (s : List ℕ) (i : ℕ) where
   -- a rule of a text has no more items than the text has bytes
-  more-sized : Found (λ x. length (x .0 .1) ≤ length s) (moreRules (Another separator) s i)
+  pub more-sized : Found (λ x. length (x .0 .1) ≤ length s) (moreRules (Another separator) s i)
   unfolding moreRules parted
   more-sized = found-then _ s i _ (blanks s i) (λ _ j _. at-place j (rule separator s j) (rule-sized separator s j))
     where
@@ -173,12 +171,12 @@ module _ (separator : ℕ) (s : List ℕ) (i : ℕ) where
 -- ---- counting
 
 -- a rule's records, and those behind them
-records-more : (r : Rule) (l : List Rule) → length (records (r ∷ l)) ≡ suc (length (r .1)) + length (records l)
+pub records-more : (r : Rule) (l : List Rule) → length (records (r ∷ l)) ≡ suc (length (r .1)) + length (records l)
 unfolding records
 records-more r l = length-append (ruleRecords r) (records l) ∙ ap (λ n. suc n + length (records l)) (length-map (r .1) wordsOf)
 
 -- no rule has no records
-records-none : length (records []) ≡ 0
+pub records-none : length (records []) ≡ 0
 unfolding records
 records-none = refl
 
@@ -218,75 +216,76 @@ counts-begin s p = refl
 
 -- ---- filling
 
--- records behind records
-overlay-append : (a b : List (List ℤ)) (t : List ℤ) (k : ℕ) → overlay t k (a ++ b) ≡ overlay (overlay t k a) (k + length a) b
-unfolding overlay
-overlay-append [] b t k = ap (λ (n : ℕ). overlay t n b) (omega arith)
-overlay-append (r ∷ a) b t k = let e : suc k + length a ≡ k + suc (length a) = omega arith in overlay-append a b _ (suc k) ∙ ap (λ (n : ℕ). overlay (overlay t k (r ∷ a)) n b) e
+module _ {A : Type 0} (d : Layout A) where
+  -- records behind records
+  laid-append : (a b : List (List ℤ)) (t : List A) (k : ℕ) → laid d t k (a ++ b) ≡ laid d (laid d t k a) (k + length a) b
+  unfolding laid
+  laid-append [] b t k = ap (λ (n : ℕ). laid d t n b) (omega arith)
+  laid-append (r ∷ a) b t k = let e : suc k + length a ≡ k + suc (length a) = omega arith in laid-append a b _ (suc k) ∙ ap (λ (n : ℕ). laid d (laid d t k (r ∷ a)) n b) e
 
--- a table keeps its length
-pub length-overlay : (rs : List (List ℤ)) (t : List ℤ) (k : ℕ) → length (overlay t k rs) ≡ length t
-unfolding overlay
-length-overlay [] t k = refl
-length-overlay (r ∷ rs) t k = length-overlay rs _ (suc k) ∙ length-sets t (k * 16) r
+  -- a table keeps its length
+  pub length-laid : (rs : List (List ℤ)) (t : List A) (k : ℕ) → length (laid d t k rs) ≡ length t
+  unfolding laid
+  length-laid [] t k = refl
+  length-laid (r ∷ rs) t k = length-laid rs _ (suc k) ∙ length-sets t (k * d .width) (d .cells r)
 
 module _ (separator : ℕ) (s : List ℕ) (i : ℕ) where
-  module _ (l slot : ℕ) (h : RoomFrom l slot (chain moreRules noMore (Another separator) s i)) where
+  module _ (w l slot : ℕ) (h : RoomFromIn w l slot (chain moreRules noMore (Another separator) s i)) where
     -- there is room for the rules behind a rule
-    pub room-more : {items k q : ℕ} → Turned separator s i items (Another q) k → RoomFrom l (slot + (items + 1)) (chain moreRules noMore (Another q) s k)
+    pub room-more : {items k q : ℕ} → Turned separator s i items (Another q) k → RoomFromIn w l (slot + (items + 1)) (chain moreRules noMore (Another q) s k)
     room-more {items} {k} {q} t =
-        let P : List Rule × Unit {0} → Type 0 = λ r. (slot + length (records (r .0))) * 16 ≤ l in
-        let Q : List Rule × Unit {0} → Type 0 = λ r. (slot + (items + 1) + length (records (r .0))) * 16 ≤ l in
-        holds-less (λ r. P (before (t .rule) r)) Q (chain moreRules noMore (Another q) s k) (λ r p. omega (arith, p, records-more (t .rule) (r .0), t .size))
-        (holds-map P s k (before (t .rule)) (chain moreRules noMore (Another q) s k) (subst (RoomFrom l slot) (all-more separator s i t) h))
+        let P : List Rule × Unit {0} → Type 0 = λ r. (slot + length (records (r .0))) * w ≤ l in
+        let Q : List Rule × Unit {0} → Type 0 = λ r. (slot + (items + 1) + length (records (r .0))) * w ≤ l in
+        holds-less (λ r. P (before (t .rule) r)) Q (chain moreRules noMore (Another q) s k) (λ r p. fewer w l _ _ p (omega (arith, records-more (t .rule) (r .0), t .size)))
+        (holds-map P s k (before (t .rule)) (chain moreRules noMore (Another q) s k) (subst (RoomFromIn w l slot) (all-more separator s i t) h))
 
     -- for the last rule
-    pub room-end : {items k : ℕ} → Turned separator s i items Finished k → (slot + (items + 1)) * 16 ≤ l
-    room-end t = let e = records-more (t .rule) [] in let p = subst (RoomFrom l slot) (all-end separator s i t) h in omega (arith, p, e, records-none, t .size)
+    pub room-end : {items k : ℕ} → Turned separator s i items Finished k → (slot + (items + 1)) * w ≤ l
+    room-end t = let e = records-more (t .rule) [] in let p = subst (RoomFromIn w l slot) (all-end separator s i t) h in fewer w l _ _ p (omega (arith, e, records-none, t .size))
 
     -- and no refusal
     pub room-unrefused : {k q : ℕ} → map sizes (moreRules (Another separator)) s i ≡ refused k q → ⊥
-    room-unrefused e = subst (RoomFrom l slot) (all-refused separator s i e) h
+    room-unrefused e = subst (RoomFromIn w l slot) (all-refused separator s i e) h
 
     -- for the rule itself
-    pub room-rule : {j : ℕ} → blanks s i ≡ got tt j → Holds (λ r. (slot + suc (length (r .1))) * 16 ≤ l) (rule separator s j)
+    pub room-rule : {j : ℕ} → blanks s i ≡ got tt j → RoomIn w l slot (rule separator s j)
     unfolding moreRules parted noMore
-    room-rule {j} e = go (rule separator s j) (subst (RoomFrom l slot) {y = all (movedTo j (follow s j (rule separator s j) afterRule nothing))} (rules-are (Another separator) s i ∙ rw e) h)
+    room-rule {j} e = go (rule separator s j) (subst (RoomFromIn w l slot) {y = all (movedTo j (follow s j (rule separator s j) afterRule nothing))} (rules-are (Another separator) s i ∙ rw e) h)
       where
         P : Rule → Type 0
-        P r = (slot + suc (length (r .1))) * 16 ≤ l
+        P r = (slot + suc (length (r .1))) * w ≤ l
 
         all : Read (Rule × Next) → Read (List Rule × Unit {0})
         all x = follow s i x (λ c. map (before (c .0)) (chain moreRules noMore (c .1))) nothing
 
-        rest : (r : Rule) (k : ℕ) (x : Read (List Rule × Unit {0})) → RoomFrom l slot (follow s k x (λ a. pure (before r a)) nothing) → P r
-        rest r k (got a m) p = omega (arith, p, records-more r (a .0))
+        rest : (r : Rule) (k : ℕ) (x : Read (List Rule × Unit {0})) → RoomFromIn w l slot (follow s k x (λ a. pure (before r a)) nothing) → P r
+        rest r k (got a m) p = fewer w l _ _ p (omega (arith, records-more r (a .0)))
         rest r k none p = absurd p
         rest r k (refused f q) p = absurd p
 
-        last : (r : Rule) (k : ℕ) (x : Read Next) → RoomFrom l slot (all (movedTo j (follow s k x (λ n. pure (r, n)) nothing))) → P r
+        last : (r : Rule) (k : ℕ) (x : Read Next) → RoomFromIn w l slot (all (movedTo j (follow s k x (λ n. pure (r, n)) nothing))) → P r
         last r k (got n m) p = rest r m (chain moreRules noMore n s m) p
         last r k none p = absurd p
         last r k (refused f q) p = absurd p
 
-        after : (r : Rule) (k : ℕ) (x : Read (Unit {0})) → RoomFrom l slot (all (movedTo j (follow s k x (λ _. map (λ n. (r, n)) (must next)) nothing))) → P r
+        after : (r : Rule) (k : ℕ) (x : Read (Unit {0})) → RoomFromIn w l slot (all (movedTo j (follow s k x (λ _. map (λ n. (r, n)) (must next)) nothing))) → P r
         after r k (got b m) p = last r m (must next s m) p
         after r k none p = absurd p
         after r k (refused f q) p = absurd p
 
-        go : (x : Read Rule) → RoomFrom l slot (all (movedTo j (follow s j x afterRule nothing))) → Holds P x
+        go : (x : Read Rule) → RoomFromIn w l slot (all (movedTo j (follow s j x afterRule nothing))) → Holds P x
         go (got r k) p = after r k (blanks s k) p
         go none p = p
         go (refused f q) p = p
 
-  module _ (t : List ℤ) (slot : ℕ) where
+  module _ {A : Type 0} (d : Layout A) (t : List A) (slot : ℕ) where
     -- a rule of the text is filled
-    pub filled-is : {t′ : List ℤ} {j items k : ℕ} {n : Next} → blanks s i ≡ got tt j → Filled t slot t′ (rule separator s j) → (x : Turned separator s i items n k) → t′ ≡ overlay t slot (ruleRecords (x .rule))
+    pub filled-is : {t′ : List A} {j items k : ℕ} {n : Next} → blanks s i ≡ got tt j → FilledAs d t slot t′ (rule separator s j) → (x : Turned separator s i items n k) → t′ ≡ laid d t slot (ruleRecords (x .rule))
     unfolding moreRules parted
     filled-is {t′} {j} {items} {k} {n} e f x = go (rule separator s j) f (sym (rw e) ∙ x .is)
       where
         P : Rule → Type 0
-        P r = t′ ≡ overlay t slot (ruleRecords r)
+        P r = t′ ≡ laid d t slot (ruleRecords r)
 
         last : (r : Rule) (l : ℕ) (y : Read Next) → P r → movedTo {A = Rule × Next} j (follow s l y (λ m. pure (r, m)) nothing) ≡ got (x .rule, n) k → P (x .rule)
         last r l (got m o) p h = let v : _≡_ {A = Rule × Next} (r, m) (x .rule, n) = cc in subst P (ap (λ (y : Rule × Next). y .0) v) p
@@ -304,51 +303,51 @@ module _ (separator : ℕ) (s : List ℕ) (i : ℕ) where
         go (refused g q) p h = absurd p
 
     -- the rules behind it are filled behind it
-    pub fills-more : (l : ℕ) {items k q : ℕ} (x : Turned separator s i items (Another q) k) → RoomFrom l (slot + (items + 1)) (chain moreRules noMore (Another q) s k) → fillFrom t slot (chain moreRules noMore (Another separator) s i) ≡ fillFrom (overlay t slot (ruleRecords (x .rule))) (slot + (items + 1)) (chain moreRules noMore (Another q) s k)
+    pub fills-more : (l : ℕ) {items k q : ℕ} (x : Turned separator s i items (Another q) k) → RoomFromIn (d .width) l (slot + (items + 1)) (chain moreRules noMore (Another q) s k) → fillFromAs d t slot (chain moreRules noMore (Another separator) s i) ≡ fillFromAs d (laid d t slot (ruleRecords (x .rule))) (slot + (items + 1)) (chain moreRules noMore (Another q) s k)
     unfolding records
-    fills-more l {items} {k} {q} x h = ap (fillFrom t slot) (all-more separator s i x) ∙ go (chain moreRules noMore (Another q) s k) h
+    fills-more l {items} {k} {q} x h = ap (fillFromAs d t slot) (all-more separator s i x) ∙ go (chain moreRules noMore (Another q) s k) h
       where
-        go : (y : Read (List Rule × Unit {0})) → RoomFrom l (slot + (items + 1)) y → fillFrom t slot (follow s k y (λ l. pure (before (x .rule) l)) nothing) ≡ fillFrom (overlay t slot (ruleRecords (x .rule))) (slot + (items + 1)) y
+        go : (y : Read (List Rule × Unit {0})) → RoomFromIn (d .width) l (slot + (items + 1)) y → fillFromAs d t slot (follow s k y (λ l. pure (before (x .rule) l)) nothing) ≡ fillFromAs d (laid d t slot (ruleRecords (x .rule))) (slot + (items + 1)) y
         go (got l j) p =
             let e : slot + length (ruleRecords (x .rule)) ≡ slot + (items + 1) = omega (arith, length-map (x .rule .1) wordsOf, x .size) in
-            overlay-append (ruleRecords (x .rule)) (records (l .0)) t slot ∙ ap (λ (n : ℕ). overlay (overlay t slot (ruleRecords (x .rule))) n (records (l .0))) e
+            laid-append d (ruleRecords (x .rule)) (records (l .0)) t slot ∙ ap (λ (n : ℕ). laid d (laid d t slot (ruleRecords (x .rule))) n (records (l .0))) e
         go none p = absurd p
         go (refused f g) p = absurd p
 
     -- the last rule is filled
-    pub fills-end : {items k : ℕ} (x : Turned separator s i items Finished k) → fillFrom t slot (chain moreRules noMore (Another separator) s i) ≡ overlay t slot (ruleRecords (x .rule))
-    unfolding records overlay
-    fills-end x = ap (fillFrom t slot) (all-end separator s i x) ∙ overlay-append (ruleRecords (x .rule)) [] t slot
+    pub fills-end : {items k : ℕ} (x : Turned separator s i items Finished k) → fillFromAs d t slot (chain moreRules noMore (Another separator) s i) ≡ laid d t slot (ruleRecords (x .rule))
+    unfolding records laid
+    fills-end x = ap (fillFromAs d t slot) (all-end separator s i x) ∙ laid-append d (ruleRecords (x .rule)) [] t slot
 
 -- the table t, filled by the rules of the text from p on: the table has those before the place i, and those from there on are left
-pub record Filling (s : List ℕ) (p : ℕ) (t table : List ℤ) (slot i separator : ℕ) : Type 0 where
+pub record Filling {A : Type 0} (d : Layout A) (s : List ℕ) (p : ℕ) (t table : List A) (slot i separator : ℕ) : Type 0 where
   pub same : length table ≡ length t
   pub low : slot ≤ i * 4097
-  pub room : RoomFrom (length table) slot (chain moreRules noMore (Another separator) s i)
-  pub fills : fillFrom t 0 (rules s p) ≡ fillFrom table slot (chain moreRules noMore (Another separator) s i)
+  pub room : RoomFromIn (d .width) (length table) slot (chain moreRules noMore (Another separator) s i)
+  pub fills : fillFromAs d t 0 (rules s p) ≡ fillFromAs d table slot (chain moreRules noMore (Another separator) s i)
 
 -- before the first rule
-pub filling-begin : (s : List ℕ) (p : ℕ) (t : List ℤ) → RoomFrom (length t) 0 (rules s p) → Filling s p t t 0 p 0
+pub filling-begin : {A : Type 0} (d : Layout A) (s : List ℕ) (p : ℕ) (t : List A) → RoomFromIn (d .width) (length t) 0 (rules s p) → Filling d s p t t 0 p 0
 unfolding rules
-filling-begin s p t h = record { same = refl; low = omega arith; room = h; fills = refl }
+filling-begin d s p t h = record { same = refl; low = omega arith; room = h; fills = refl }
 
 -- a rule more
-pub filling-more : (s : List ℕ) (p : ℕ) (t table table′ : List ℤ) (slot i separator : ℕ) {j items k q : ℕ} → length s ≤ 4096 → Filling s p t table slot i separator → blanks s i ≡ got tt j → Filled table slot table′ (rule separator s j) →
-    Turned separator s i items (Another q) k → Filling s p t table′ (slot + (items + 1)) k q
-filling-more s p t table table′ slot i separator {items = items} {k} {q} small f b w x =
-    let e = filled-is separator s i table slot b w x in
-    let h = room-more separator s i (length table) slot (f .room) x in
-    let n : length table′ ≡ length table = ap length e ∙ length-overlay (ruleRecords (x .rule)) table slot in
+pub filling-more : {A : Type 0} (d : Layout A) (s : List ℕ) (p : ℕ) (t table table′ : List A) (slot i separator : ℕ) {j items k q : ℕ} → length s ≤ 4096 → Filling d s p t table slot i separator → blanks s i ≡ got tt j → FilledAs d table slot table′ (rule separator s j) →
+    Turned separator s i items (Another q) k → Filling d s p t table′ (slot + (items + 1)) k q
+filling-more {A} d s p t table table′ slot i separator {items = items} {k} {q} small f b w x =
+    let e = filled-is separator s i d table slot b w x in
+    let h = room-more separator s i (d .width) (length table) slot (f .room) x in
+    let n : length table′ ≡ length table = ap length e ∙ length-laid d (ruleRecords (x .rule)) table slot in
     record {
       same = n ∙ f .same;
       low = omega (arith, f .low, x .few, x .later, small);
-      room = subst (λ (l : ℕ). RoomFrom l (slot + (items + 1)) (chain moreRules noMore (Another q) s k)) (sym n) h;
-      fills = f .fills ∙ fills-more separator s i table slot (length table) x h ∙ ap (λ (y : List ℤ). fillFrom y (slot + (items + 1)) (chain moreRules noMore (Another q) s k)) (sym e);
+      room = subst (λ (l : ℕ). RoomFromIn (d .width) l (slot + (items + 1)) (chain moreRules noMore (Another q) s k)) (sym n) h;
+      fills = f .fills ∙ fills-more separator s i d table slot (length table) x h ∙ ap (λ (y : List A). fillFromAs d y (slot + (items + 1)) (chain moreRules noMore (Another q) s k)) (sym e);
     }
 
 -- the last rule
-pub filling-end : (s : List ℕ) (p : ℕ) (t table table′ : List ℤ) (slot i separator : ℕ) {j items k : ℕ} → Filling s p t table slot i separator → blanks s i ≡ got tt j → Filled table slot table′ (rule separator s j) →
-    Turned separator s i items Finished k → (length table′ ≡ length t) × (table′ ≡ fillFrom t 0 (rules s p))
-filling-end s p t table table′ slot i separator f b w x =
-    let e = filled-is separator s i table slot b w x in
-    (ap length e ∙ length-overlay (ruleRecords (x .rule)) table slot ∙ f .same, e ∙ sym (f .fills ∙ fills-end separator s i table slot x))
+pub filling-end : {A : Type 0} (d : Layout A) (s : List ℕ) (p : ℕ) (t table table′ : List A) (slot i separator : ℕ) {j items k : ℕ} → Filling d s p t table slot i separator → blanks s i ≡ got tt j → FilledAs d table slot table′ (rule separator s j) →
+    Turned separator s i items Finished k → (length table′ ≡ length t) × (table′ ≡ fillFromAs d t 0 (rules s p))
+filling-end d s p t table table′ slot i separator f b w x =
+    let e = filled-is separator s i d table slot b w x in
+    (ap length e ∙ length-laid d (ruleRecords (x .rule)) table slot ∙ f .same, e ∙ sym (f .fills ∙ fills-end separator s i d table slot x))

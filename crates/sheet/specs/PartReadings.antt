@@ -1,13 +1,14 @@
 -- Reading a part.
-use Prim.Native.Nat.{ℕ, zero, suc, _+_}
-use mathlib.Core.List.{List, [], _∷_}
-use mathlib.Core.Bool.{Bool, true, false, _&&_, not}
-use lib.Dec.{ltb, eqb}
+use Prim.Native.Nat.{ℕ, suc}
+use mathlib.Core.List.{List, []}
+use mathlib.Core.Bool.{Bool, true, false, not}
+use lib.Dec.{ltb}
 use lib.IntN.{ℤ}
-use lib.ListN.{length, getD, take, drop}
+use lib.ListN.{length, take}
 use Rattle.names.specs.Tests.{if_then_else_}
+use Rattle.rules.specs.Tables.{asBytes}
 use Rattle.sheet.specs.Parts.{begins, partEnd}
-use Rattle.sheet.specs.Sheets.{refusal, textOf, written}
+use Rattle.sheet.specs.Sheets.{refusal, textOf, written, writtenAs, wordsIn}
 use Rattle.sheet.specs.declared.Answer.{Answer}
 use Rattle.sheet.specs.declared.PartAnswer.{PartAnswer}
 
@@ -39,3 +40,7 @@ partOf s p n =
 -- what reading a part answers, and the table afterwards
 unfoldable pub partReading : List ℕ → ℕ → List ℤ → PartAnswer × List ℤ
 partReading s p t = written t (partOf s p (length t))
+
+-- the same of a table of bytes
+unfoldable pub partReadingBytes : List ℕ → ℕ → List ℕ → PartAnswer × List ℕ
+partReadingBytes s p t = writtenAs asBytes t (partOf s p (wordsIn (length t)))

@@ -5,7 +5,7 @@ use lib.IntN.{ℤ}
 use lib.ListN.{length}
 use Rattle.names.specs.Read.{Read, got, none, refused}
 use Rattle.rules.specs.Rules.{Rule}
-use Rattle.rules.specs.Tables.{overlay, Holds}
+use Rattle.rules.specs.Tables.{Layout, asWords, laid, Holds}
 use Rattle.rules.specs.declared.Next.{Next}
 use Rattle.sheet.specs.Texts.{records}
 use Rattle.sheet.specs.declared.Parted.{Parted}
@@ -24,12 +24,20 @@ countFrom n p (got l j) = Got (n + length (records (l .0)))
 countFrom n p none = Refused 3 p
 countFrom n p (refused k q) = Refused k q
 
--- the rules of a text are accepted, and their records have room in a table of the length l from slot k on
+-- the rules of a text are accepted, and their records have room in l cells, w to a slot, from slot k on
+abbrev pub RoomFromIn : ℕ → ℕ → ℕ → Read (List Rule × Unit {0}) → Type 0
+RoomFromIn w l k = Holds (λ r. (k + length (records (r .0))) * w ≤ l)
+
+-- in a table of words of the length l
 abbrev pub RoomFrom : ℕ → ℕ → Read (List Rule × Unit {0}) → Type 0
-RoomFrom l k = Holds (λ r. (k + length (records (r .0))) * 16 ≤ l)
+RoomFrom = RoomFromIn 16
 
 -- a table with the records of rules written over it from slot k on
+abbrev pub fillFromAs : {A : Type 0} → Layout A → List A → ℕ → Read (List Rule × Unit {0}) → List A
+fillFromAs d t k (got l j) = laid d t k (records (l .0))
+fillFromAs d t k none = t
+fillFromAs d t k (refused e q) = t
+
+-- a table of words
 abbrev pub fillFrom : List ℤ → ℕ → Read (List Rule × Unit {0}) → List ℤ
-fillFrom t k (got l j) = overlay t k (records (l .0))
-fillFrom t k none = t
-fillFrom t k (refused e q) = t
+fillFrom = fillFromAs asWords

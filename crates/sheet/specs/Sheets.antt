@@ -1,5 +1,5 @@
 -- Reading a text, and a sheet.
-use Prim.Native.Nat.{ℕ, _/_}
+use Prim.Native.Nat.{ℕ, _*_, _/_}
 use mathlib.Core.List.{List, []}
 use lib.Dec.{ltb}
 use lib.IntN.{ℤ}
@@ -7,7 +7,7 @@ use lib.ListN.{length, drop}
 use Rattle.names.specs.Tests.{if_then_else_}
 use Rattle.names.specs.Read.{Read, got, none, refused}
 use Rattle.rules.specs.Rules.{Rule}
-use Rattle.rules.specs.Tables.{overlay}
+use Rattle.rules.specs.Tables.{Layout, asWords, asBytes, laid}
 use Rattle.sheet.specs.Texts.{rules, records}
 use Rattle.sheet.specs.Warnings.{warningsOf}
 use Rattle.sheet.specs.declared.Answer.{Answer}
@@ -40,13 +40,21 @@ textOf s p n = judgedText s p n (rules s p)
 unfoldable pub sheetOf : List ℕ → ℕ → Answer × List (List ℤ)
 sheetOf s n = if ltb 4096 (length s) then refusal 1 0 else textOf s 0 n
 
--- a table after records are written: only their words change
+-- a table after records are written: only their cells change
+abbrev pub tableAfterAs : {A : Type 0} → Layout A → List A → List (List ℤ) → List A
+tableAfterAs d t rs = laid d t 0 rs
+
+-- of words
 abbrev pub tableAfter : List ℤ → List (List ℤ) → List ℤ
-tableAfter t rs = overlay t 0 rs
+tableAfter = tableAfterAs asWords
 
 -- what reading answers, and the table afterwards
+abbrev pub writtenAs : {A B : Type 0} → Layout B → List B → A × List (List ℤ) → A × List B
+writtenAs d t r = (r .0, tableAfterAs d t (r .1))
+
+-- of words
 abbrev pub written : {A : Type 0} → List ℤ → A × List (List ℤ) → A × List ℤ
-written t r = (r .0, tableAfter t (r .1))
+written = writtenAs asWords
 
 -- the same of a text, from place p on
 unfoldable pub textReading : List ℕ → ℕ → List ℤ → Answer × List ℤ
@@ -55,3 +63,15 @@ textReading s p t = written t (textOf s p (length t))
 -- and of a sheet
 unfoldable pub sheetReading : List ℕ → List ℤ → Answer × List ℤ
 sheetReading s t = written t (sheetOf s (length t))
+
+-- a table of n bytes has room for as many records as one of so many words
+abbrev pub wordsIn : ℕ → ℕ
+wordsIn n = n / 64 * 16
+
+-- what reading a text into a table of bytes answers, and the table afterwards
+unfoldable pub textReadingBytes : List ℕ → ℕ → List ℕ → Answer × List ℕ
+textReadingBytes s p t = writtenAs asBytes t (textOf s p (wordsIn (length t)))
+
+-- and a sheet
+unfoldable pub sheetReadingBytes : List ℕ → List ℕ → Answer × List ℕ
+sheetReadingBytes s t = writtenAs asBytes t (sheetOf s (wordsIn (length t)))

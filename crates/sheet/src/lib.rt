@@ -1,4 +1,7 @@
 // A whole sheet, and its parts.
+mod byte_parts;
+mod byte_sheets;
+mod byte_texts;
 mod notes;
 mod part_readings;
 mod parts;
@@ -6,8 +9,11 @@ mod sheets;
 mod texts;
 mod warnings;
 
+pub use byte_parts::read_part_bytes;
+pub use byte_sheets::read_sheet_bytes;
 use names::Cursor;
 pub use notes::note;
+pub use notes::note_part;
 pub use part_readings::read_part;
 use rules::Next;
 pub use sheets::read_sheet;
@@ -28,6 +34,13 @@ pub struct PartAnswer {
     pub warnings: usize,
     pub next: usize,
     pub last: bool,
+}
+
+// Which bytes a note is: the sheet's, or else the standing note's, from where and to where.
+pub struct NotePart {
+    pub sheets: bool,
+    pub from: usize,
+    pub to: usize,
 }
 
 // What reading a rule and what parts it from the next finds: how many items it has, what follows and where; or a refusal with its number and place.

@@ -23,7 +23,7 @@ fn part_answer_of(a: Answer, next: usize, last: bool) -> PartAnswer
 }
 
 // The answer of a part that ends at e.
-fn with_next(s: &[u8], e: usize, a: Answer) -> PartAnswer
+pub fn with_next(s: &[u8], e: usize, a: Answer) -> PartAnswer
     ensures { λ r. ⌜ r ≡ parts.withNext (now (s .entry)) e a ⌝ }
 {
     if e < s.len() {
@@ -34,7 +34,7 @@ fn with_next(s: &[u8], e: usize, a: Answer) -> PartAnswer
 }
 
 // 1 and 2 give next 0, last.
-fn part_refusal(number: u8) -> PartAnswer
+pub fn part_refusal(number: u8) -> PartAnswer
     ensures { λ r. ⌜ r ≡ parts.partRefusal number .0 ⌝ }
 {
     part_answer_of(refusal(number, 0), 0, true)

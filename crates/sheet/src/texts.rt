@@ -17,7 +17,7 @@ use rules::fill_rule;
 use rules::next_rule;
 
 // The blanks after a rule that was read at c, and what parts it from the next. A refusal's place is the rule's.
-fn parted(s: &[u8], c: Cursor, r: RuleRead) -> Parted
+pub fn parted(s: &[u8], c: Cursor, r: RuleRead) -> Parted
     ensures { λ x. ⌜ texts.movedTo (c .at) (follow (now (s .entry)) (c .at) (seenRule r) (λ h. texts.afterRule (h .items)) nothing) ≡ seenParted x ⌝ }
 {
     match r {

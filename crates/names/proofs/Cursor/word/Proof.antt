@@ -6,42 +6,51 @@ use mathlib.Core.Path.{_≡_, refl, sym, ap, _∙_}
 use denote.Ref.{now}
 use lib.ListN.{length, getD}
 use Rattle.names.specs.Names.{names, lower, letter}
-use Rattle.names.specs.Table.{beginning, padded, rowsOf}
+use Rattle.names.specs.Table.{key, beginning, padded, rowsOf}
+use Rattle.names.proofs.Laws.{inside}
 use Rattle.names.proofs.Rows.{few}
-use Rattle.names.proofs.Search.{word-nearby, Left, Within, Tries, over, enter, seven, ended, same, other}
+use Rattle.names.proofs.Search.{no-word, word-nearby, Left, Within, Tries, over, enter, ended, same, other}
 use Rattle.names.proofs.Cursor.word.Statement.{statement}
 use Rattle.names.proofs.Cursor.word.Tie as tie
 
--- name k is tried, its first j letters stand here
+-- name k is tried, its first j letters stand here, and the others are the number rest
 abbrev Inv-loop : tie.InvT-loop
-Inv-loop s at table k row mark kind j₀ j = (j ≤ 7) × Within s at k j
+Inv-loop s at first table k row mark kind rest₀ j₀ rest j = Within s at k j rest
 
 abbrev μ-loop : tie.MeasureT-loop
-μ-loop s at table k row mark kind j₀ j = 7 - j
+μ-loop s at first table k row mark kind rest₀ j₀ rest j = rest
 
 abbrev Inv-names : tie.InvT-names
-Inv-names s at table k₀ k = Left s at k
+Inv-names s at first table k₀ k = Left s at k
 
 abbrev μ-names : tie.MeasureT-names
-μ-names s at table k₀ k = 7 - k
+μ-names s at first table k₀ k = 4 - k
 
--- the table holds the rows of the names that can stand here, six at most
-tries : (c : tie.At-names Inv-loop μ-loop Inv-names μ-names) → let a = c .before .before .before .before .before .args in Tries (now (a .s)) (a .self .at) (c .names .k) (c .before .rows .result)
+-- a byte from the letters on stands in the text
+starts : (c : tie.Else1 Inv-loop μ-loop Inv-names μ-names) → let a = c .before .before .before .args in a .self .at < length (now (a .s))
+starts c = let a = c .before .before .before .args in inside (now (a .s)) (a .self .at) (λ e. omega (arith, c .if1 .left, c .before .byte .ensures ∙ e))
+
+-- the table holds the rows of the names that can stand here
+tries : (c : tie.At-names Inv-loop μ-loop Inv-names μ-names) → let a = c .before .before .before .before .before .before .before .before .before .args in Tries (now (a .s)) (a .self .at) (c .names .k) (c .before .rows .result)
 unfolding rowsOf
 tries c =
-    let b = c .before .before .lower .ensures ∙ ap lower (c .before .before .before .byte .ensures) in
+    let two = c .before .before .before in
+    let b = two .before .before .lower .ensures ∙ ap lower (two .before .before .before .before .byte .ensures) in
+    let d = two .lower2 .ensures ∙ ap lower (two .before .byte2 .ensures) in
     record {
-      is = c .before .rows .ensures ∙ ap (λ (b : ℕ). padded (beginning b names)) b;
-      few = rw (sym b) (few (c .before .before .lower .result) (c .before .before .lower .ok));
+      is = c .before .rows .ensures ∙ ap (λ (k : ℕ). padded (beginning k names)) (c .before .before .key .ensures ∙ rw (b, d));
+      few = few _;
+      start = starts (two .before .before .before);
+      second = omega (arith, sym d, two .lower2 .ok);
       left = c .names .inv;
     }
 
 -- another letter: the next name
-next : (c : tie.Then4 Inv-loop μ-loop Inv-names μ-names) → let n = c .before .before .before .before .before .before .before .before in let a = n .before .before .before .before .before .args in Left (now (a .s)) (a .self .at) (n .names .k + 1)
+next : (c : tie.Then4 Inv-loop μ-loop Inv-names μ-names) → let n = c .before .before .before .before .before .before .before in let a = n .before .before .before .before .before .before .before .before .before .args in Left (now (a .s)) (a .self .at) (n .names .k + 1)
 next c =
-    let l = c .before .before .before .before .before in
-    other (tries (l .before .before .before)) (l .before .if1 .left) (l .loop .j) (l .loop .inv .1) (omega (arith, c .before .before .before .before .if2 .left)) (c .before .before .before .if3 .left)
-    (λ e. c .if4 .taken (c .before .letter .ensures ∙ ap (letter _) (c .before .before .byte2 .ensures) ∙ e))
+    let l = c .before .before .before .before in
+    other (tries (l .before .before .before)) (l .before .before .if2 .left) (l .loop .j) (l .loop .rest) (l .loop .inv) (c .before .before .before .if3 .left)
+    (λ e. c .if4 .taken (c .before .letter .ensures ∙ ap (letter _) (c .before .before .byte3 .ensures) ∙ e))
 
 pub word-spec : {M : Type 1} → statement M
 word-spec =
@@ -52,29 +61,31 @@ word-spec =
     Inv-names
     μ-names
     (λ c κs. search needs)  -- byte-requires
+    (λ c. no-word _ _ (omega (arith, c .if1 .taken, c .before .byte .ensures)))  -- returns
     (λ c κs. search needs)  -- lower-requires
+    (λ c. omega (arith, starts (c .before)))  -- add-t18
+    (λ c κs. search needs)  -- byte-requires-2
+    (λ c κs. search needs)  -- lower-requires-2
+    (λ c κs. search needs)  -- key-requires
     (λ c κs. search needs)  -- rows-requires
     (λ c. (omega arith, word-nearby _ _))  -- names-holds
     (λ c. omega (arith, tries c))  -- mul-row
-    (λ c. omega (arith, tries c))  -- array-copy-out-row
-    (λ c. search needs)  -- array-read-mark
-    (λ c. (omega arith, enter (tries (c .before .before)) (c .if1 .left)))  -- loop-holds
-    (λ c. search needs)  -- add-t25
-    (λ c. omega (arith, c .if2 .left))  -- array-read-x
-    (λ c. search needs)  -- add-t31
-    (λ c. search needs)  -- add-t34
-    (λ c κs. search needs)  -- byte-requires-2
+    (λ c. omega (arith, tries c))  -- array-read-row
+    (λ c. omega arith)  -- cast-mark
+    (λ c κs. search needs)  -- told-requires
+    (λ c. rw (c .told .ensures) (enter (tries (c .before .before)) (c .before .if2 .left)))  -- loop-holds
+    (λ c. search needs)  -- add-t28
+    (λ c. search needs)  -- add-t32
+    (λ c κs. search needs)  -- byte-requires-3
     (λ c κs. search needs)  -- letter-requires
+    (λ c. omega arith)  -- cast-if4
     (λ c. search needs)  -- add-j
-    (λ c. omega (arith, c .before .before .before .before .if2 .left))  -- loop-less
-    (λ c. let l = c .before .before .before .before .before in (
-      omega (arith, c .before .before .before .before .if2 .left),
-      same (tries (l .before .before .before)) (l .before .if1 .left) (l .loop .j) (l .loop .inv .1) (omega (arith, c .before .before .before .before .if2 .left)) (c .before .before .before .if3 .left)
-          (ap (letter _) (sym (c .before .before .byte2 .ensures)) ∙ sym (c .before .letter .ensures) ∙ c .if4 .left),
-    ))  -- loop-again
-    (λ c. omega (arith, tries (c .before .before .before .before .before .before .before .before)))  -- add-k
-    (λ c. omega (arith, next c, tries (c .before .before .before .before .before .before .before .before)))  -- names-less
+    (λ c. omega (arith, c .before .before .before .if3 .left))  -- loop-less
+    (λ c. let l = c .before .before .before .before in
+    same (tries (l .before .before .before)) (l .before .before .if2 .left) (l .loop .j) (l .loop .rest) (l .loop .inv) (c .before .before .before .if3 .left)
+    (ap (letter _) (sym (c .before .before .byte3 .ensures)) ∙ sym (c .before .letter .ensures) ∙ c .if4 .left))  -- loop-again
+    (λ c. omega (arith, next c, tries (c .before .before .before .before .before .before .before)))  -- add-k
+    (λ c. omega (arith, next c, tries (c .before .before .before .before .before .before .before)))  -- names-less
     (λ c. next c)  -- names-again
-    (λ c. over (tries (c .before .before)) (c .if1 .taken))  -- returns
-    (λ c. let l = c .before in seven (tries (l .before .before .before)) (l .before .if1 .left) (l .loop .j) (l .loop .inv .1) (c .if2 .taken))  -- returns-2
-    (λ c. let l = c .before .before in ended (tries (l .before .before .before)) (l .before .if1 .left) (l .loop .j) (l .loop .inv .1) (c .if3 .taken)))  -- returns-3
+    (λ c. over (tries (c .before)) (c .if2 .taken))  -- returns-2
+    (λ c. let l = c .before in ended (tries (l .before .before .before)) (l .before .before .if2 .left) (l .loop .j) (l .loop .rest) (l .loop .inv) (c .if3 .taken)))  -- returns-3

@@ -1,13 +1,13 @@
--- `names::table::rows` meets its contract: the rows are the names of the definition, computed for each first letter.
+-- `names::table::rows` meets its contract: the rows are the names of the definition, computed for each two letters.
 use Rattle.names.specs.Tests.{within}
-use Rattle.names.specs.Names.{names, lower}
-use Rattle.names.specs.Table.{beginning, rowsOf}
+use Rattle.names.specs.Names.{names, lower, spelledSo}
+use Rattle.names.specs.Table.{keyOf, beginning, told, packed, rowsOf}
 use Rattle.names.proofs.Rows.{no-row}
 use Rattle.names.proofs.table.rows.Statement.{statement}
 use Rattle.names.proofs.table.rows.Tie as tie
 
 pub rows-spec : {M : Type 1} → statement M
-unfolding within names lower beginning rowsOf
+unfolding within names lower spelledSo keyOf beginning told packed rowsOf
 rows-spec =
     tie.close
     (tie.spec
@@ -25,4 +25,16 @@ rows-spec =
     (λ c. rw (c .match .keys12))
     (λ c. rw (c .match .keys13))
     (λ c. rw (c .match .keys14))
-    (λ c. no-row (c .before .args .b) (c .before .fits .b .fits) (c .match .rest)))
+    (λ c. rw (c .match .keys15))
+    (λ c. rw (c .match .keys16))
+    (λ c. rw (c .match .keys17))
+    (λ c. rw (c .match .keys18))
+    (λ c. rw (c .match .keys19))
+    (λ c. rw (c .match .keys20))
+    (λ c. rw (c .match .keys21))
+    (λ c. rw (c .match .keys22))
+    (λ c. rw (c .match .keys23))
+    (λ c. rw (c .match .keys24))
+    (λ c. rw (c .match .keys25))
+    (λ c. rw (c .match .keys26))
+    (λ c. no-row (c .before .args .key) (c .match .rest)))

@@ -12,17 +12,17 @@ use Rattle.records.specs.Seen.{seenItem}
 use Rattle.records.specs.declared.Item.{Item}
 use Rattle.rules.specs.Rules.{rule, counted}
 use Rattle.rules.specs.Seen.{seenRule}
-use Rattle.rules.specs.Tables.{Filled}
+use Rattle.rules.specs.Tables.{asWords, FilledAs}
 use Rattle.rules.specs.declared.Head.{Head}
 use Rattle.rules.proofs.Cut.{more-alike}
 use Rattle.rules.proofs.Counts.{rest, counted-opening, counted-refused, counted-end}
 use Rattle.rules.proofs.Small.{opening-small}
-use Rattle.rules.proofs.Fills.{Turn, turn-begin, turn-more, fits-opening, fits-here, fits-more, fits-unrefused, fits-ended, filled-end, head-small}
+use Rattle.rules.proofs.Fills.{Turn, turn-begin, turn-more, fits-opening, fits-here, fits-more, fits-unrefused, fits-ended, words-fit, filled-end, head-small}
 use Rattle.rules.proofs.rule.fill_rule.Statement.{statement}
 use Rattle.rules.proofs.rule.fill_rule.Tie as tie
 
 abbrev Inv-loop : tie.InvT-loop
-Inv-loop s separator table₀ slot wide n₀ spot₀ table n spot = Turn separator wide slot s table₀ (spot₀ .stage) (spot₀ .at) table n (spot .stage) (spot .at)
+Inv-loop s separator table₀ slot wide n₀ spot₀ table n spot = Turn asWords separator wide slot s table₀ (spot₀ .stage) (spot₀ .at) table n (spot .stage) (spot .at)
 
 abbrev μ-loop : tie.MeasureT-loop
 μ-loop s separator table₀ slot wide n₀ spot₀ table n spot = length s - spot .at
@@ -51,14 +51,14 @@ whole c = let b = c .before .before .before .before in sym (counted-opening _ _ 
 
 -- there is room for the head and n items, and for an item more where there is one
 room : (c : tie.At-loop Inv-loop μ-loop) → (c .before .before .before .before .before .before .args .slot + suc (c .loop .n)) * 16 ≤ length (now (c .before .before .before .before .before .before .args .table))
-room c = fits-here _ _ _ (c .loop .n) (c .loop .spot .stage) (c .loop .spot .at) (c .loop .inv .fits)
+room c = fits-here _ 16 _ _ (c .loop .n) (c .loop .spot .stage) (c .loop .spot .at) (c .loop .inv .fits)
 
 next : (c : tie.After-more2 Inv-loop μ-loop) → let l = c .before .before .before in let a = l .before .before .before .before .before .before .args in (a .slot + suc (l .loop .n + 1)) * 16 ≤ length (now (a .table))
 next c = let l = c .before .before .before in
-    fits-here _ _ _ (l .loop .n + 1) _ _ (fits-more _ _ _ (l .loop .n) (l .loop .spot .stage) (l .loop .spot .at) (l .loop .inv .fits) (item c .is))
+    fits-here _ 16 _ _ (l .loop .n + 1) _ _ (fits-more _ 16 _ _ (l .loop .n) (l .loop .spot .stage) (l .loop .spot .at) (l .loop .inv .fits) (item c .is))
 
 -- a rule that has room is not refused
-never : (c : tie.At-loop Inv-loop μ-loop) → ⊥ → let a = c .before .before .before .before .before .before .args in Filled (now (a .table)) (a .slot) (c .loop .table) (rule (a .separator) (now (a .s)) (a .c .at))
+never : (c : tie.At-loop Inv-loop μ-loop) → ⊥ → let a = c .before .before .before .before .before .before .args in FilledAs asWords (now (a .table)) (a .slot) (c .loop .table) (rule (a .separator) (now (a .s)) (a .c .at))
 never c h = absurd h
 
 pub fill-rule-spec : {M : Type 1} → statement M
@@ -69,7 +69,7 @@ fill-rule-spec =
     μ-loop
     (λ c κs. search needs)  -- begin-requires
     (λ c. let b = c .before .before .before in let z = b .before .before in
-    turn-begin _ _ _ _ _ _ _ (fits-opening (now (z .args .s)) (z .args .separator) (z .args .c .at) (now (z .args .table)) (z .args .slot) (b .begin .ensures) (z .pre .1)))  -- loop-holds
+    turn-begin asWords _ _ _ _ _ _ _ (fits-opening (now (z .args .s)) 16 (z .args .separator) (z .args .c .at) (length (now (z .args .table))) (z .args .slot) (b .begin .ensures) (z .pre .1)))  -- loop-holds
     (λ c κs. search needs)  -- more-requires
     (λ c. search needs)  -- enum-known-more
     (λ c. omega (arith, past-one (more-alike _) (item (c .before) .is), c .before .before .before .before .loop .inv .low))  -- add-n
@@ -80,7 +80,7 @@ fill-rule-spec =
     (λ c. omega (arith, c .behind2 .ensures .0, past-one (more-alike _) (item (c .before .before .before .before .before .before) .is)))  -- loop-less
     (λ c. let l = c .before .before .before .before .before .before .before .before .before in
     rw (c .behind2 .ensures .0, c .behind2 .ensures .1, c .before .before .store .ensures, c .before .before .before .words-of .ensures)
-    (turn-more _ _ _ _ _ _ _ (l .loop .table) (l .loop .n) (l .loop .spot .stage) (l .loop .spot .at) (l .loop .inv) (item (c .before .before .before .before .before .before) .is)))  -- loop-again
+    (turn-more asWords _ _ _ _ _ _ _ (l .loop .table) (l .loop .n) (l .loop .spot .stage) (l .loop .spot .at) (l .loop .inv) (item (c .before .before .before .before .before .before) .is)))  -- loop-again
     (λ c. search needs)  -- enum-told
     (λ c κs. search needs)  -- ended-requires
     (λ c. search needs)  -- enum-known-r
@@ -89,20 +89,20 @@ fill-rule-spec =
     (omega (arith, h .0 .0, z .pre .0), omega (arith, h .0 .1, z .pre .0), omega (arith, h .1, l .loop .inv .few, z .pre .0)))  -- head-words-requires
     (λ c κs. let l = c .before .before .before .before .before .before .before .before .before in omega (arith, room l, l .loop .inv .same))  -- store-requires-2
     (λ c. search needs)  -- enum-told-2
-    (λ c. let l = c .before .before .before .before .before .before .before .before .before .before .before in rw (c .before .store2 .ensures) (length-sets (l .loop .table) (l .before .before .before .before .before .before .args .slot * 16) (c .before .before .head-words .result) ∙ l .loop .inv .same))  -- same-length
+    (λ c. let l = c .before .before .before .before .before .before .before .before .before .before .before in rw (c .before .store2 .ensures, length-sets) (l .loop .inv .same))  -- same-length
     (λ c. let l = c .before .before .before .before .before .before .before .before .before .before .before in let b = l .before .before .before .before in let z = b .before .before in let h = head (c .before .before .before .before .before) in let e = none (c .before .before .before .before .before .before .before .before) in (
       whole l ∙ counted-end _ _ _ (l .loop .n) (l .loop .spot .stage) (l .loop .spot .at) (e .is) ∙ h .is,
       rw (c .before .store2 .ensures, c .before .before .head-words .ensures)
-          (filled-end _ _ _ _ (now (z .args .table)) (l .loop .table) (z .args .slot) (l .loop .n) (z .args .c .at) _ (l .loop .spot .at) _ (l .loop .spot .stage) (b .begin .ensures) refl (e .is) (l .loop .inv .counts) (l .loop .inv .fills) (h .is)),
+          (filled-end _ _ _ _ asWords (words-fit _) (now (z .args .table)) (l .loop .table) (z .args .slot) (l .loop .n) (z .args .c .at) _ (l .loop .spot .at) _ (l .loop .spot .stage) (b .begin .ensures) refl (e .is) (l .loop .inv .counts) (l .loop .inv .fills) (h .is)),
     ))  -- returns
     (λ c. c .before .before .before .before .before .before .loop .inv .same)  -- same-length-2
     (λ c. let l = c .before .before .before .before .before .before in let e = none (c .before .before .before) in (
       whole l ∙ counted-end _ _ _ (l .loop .n) (l .loop .spot .stage) (l .loop .spot .at) (e .is) ∙ c .before .before .ended .ensures,
-      never l (fits-ended _ _ _ (l .loop .n) (l .loop .spot .stage) (l .loop .spot .at) (l .loop .inv .fits) _ (e .is) (headless c .is)),
+      never l (fits-ended _ 16 _ _ (l .loop .n) (l .loop .spot .stage) (l .loop .spot .at) (l .loop .inv .fits) _ (e .is) (headless c .is)),
     ))  -- returns-2
     (λ c. search needs)  -- enum-known-more-2
     (λ c. c .before .before .before .before .loop .inv .same)  -- same-length-3
     (λ c. let l = c .before .before .before .before in let e = refused (c .before) in (
       whole l ∙ counted-refused _ _ _ (l .loop .n) (l .loop .spot .stage) (l .loop .spot .at) (e .is),
-      never l (fits-unrefused _ _ _ (l .loop .n) (l .loop .spot .stage) (l .loop .spot .at) (l .loop .inv .fits) (e .is)),
+      never l (fits-unrefused _ 16 _ _ (l .loop .n) (l .loop .spot .stage) (l .loop .spot .at) (l .loop .inv .fits) (e .is)),
     )))  -- returns-3

@@ -1,30 +1,44 @@
 -- `sheet::note` meets its contract.
+use Prim.Native.Nat.{_≤_}
 use borrow.Author.Needs.{needs}
 use native.Mathlib.Omega.{arith}
+use mathlib.Core.Bool.{true, false}
+use mathlib.Core.Path.{_≡_, ap, _∙_}
+use denote.Ref.{now}
+use mir.Syntax.{w32}
+use mir.Val.{ofZ, toZ}
 use mir.Facts.{toZ-ofZ}
-use Rattle.sheet.proofs.Noted.{zero-is, below, zero-not, noted-whole, noted-before, noted-negative, noted-past, noted-comment}
+use lib.IntN.{ℤ}
+use lib.ListN.{length}
+use Rattle.sheet.specs.Notes.{notePart}
+use Rattle.sheet.proofs.Noted.{in-sheet, in-note, cut-sheet, cut-note}
 use Rattle.sheet.proofs.notes.note.Statement.{statement}
 use Rattle.sheet.proofs.notes.note.Tie as tie
+
+-- the note's numbers
+numbers : (c : tie.After-note-part) → let a = c .before .before .before .args in let r = c .note-part .result in (r .sheets, (r .from, r .to)) ≡ notePart (length (now (a .sheet))) (length (now (a .standing))) (a .start) (a .length)
+numbers c = let z = c .before .before .before in let m = length (now (z .args .sheet)) in let n = length (now (z .args .standing)) in
+    c .note-part .ensures
+    ∙ ap (λ (x : ℤ). notePart m n x (toZ w32 (ofZ w32 (z .args .length)))) (toZ-ofZ (z .fits .start))
+    ∙ ap (notePart m n (z .args .start)) (toZ-ofZ (z .fits .length))
+
+-- they stand in the sheet, or in the standing note
+stands : (c : tie.After-note-part) → c .note-part .result .sheets ≡ true → (c .note-part .result .from ≤ c .note-part .result .to) × (c .note-part .result .to ≤ length (now (c .before .before .before .args .sheet)))
+stands c t = let a = c .before .before .before .args in in-sheet (length (now (a .sheet))) (length (now (a .standing))) (a .start) (a .length) (numbers c) t
+
+waits : (c : tie.After-note-part) → c .note-part .result .sheets ≡ false → (c .note-part .result .from ≤ c .note-part .result .to) × (c .note-part .result .to ≤ length (now (c .before .before .before .args .standing)))
+waits c t = let a = c .before .before .before .args in in-note (length (now (a .sheet))) (length (now (a .standing))) (a .start) (a .length) (numbers c) t
 
 pub note-spec : {M : Type 1} → statement M
 note-spec =
     tie.close
     (tie.spec
-    (λ c. let z = c .before in noted-whole (z .args .sheet) (z .args .standing) (z .args .start) (z .args .length) (zero-is (z .args .length) (toZ-ofZ (z .fits .length)) (c .if1 .taken)))  -- returns
-    (λ c. search needs)  -- slice-aggregate-result
-    (λ c. let z = c .before .before .before in
-    noted-before (z .args .sheet) (z .args .standing) (z .args .start) (z .args .length) _ (toZ-ofZ (z .fits .start)) (zero-not (z .args .length) (c .before .before .if1 .left)) (c .before .if2 .taken))  -- returns-2
-    (λ c. search needs)  -- slice-aggregate-result-2
-    (λ c. let z = c .before .before .before .before in
-    noted-negative (z .args .sheet) (z .args .standing) (z .args .start) (z .args .length) _ (toZ-ofZ (z .fits .length)) (c .before .if3 .taken))  -- returns-3
-    (λ c. let z = c .before .before .before in let h = below (z .args .start) _ (toZ-ofZ (z .fits .start)) (c .before .if2 .left) (z .fits .start) in (h .0, omega (arith, h .1)))  -- cast-a
-    (λ c. let z = c .before .before .before in let h = below (z .args .length) _ (toZ-ofZ (z .fits .length)) (c .if3 .left) (z .fits .length) in (h .0, omega (arith, h .1)))  -- cast-e
-    (λ c. let z = c .before .before .before in omega (arith, below (z .args .start) _ (toZ-ofZ (z .fits .start)) (c .before .if2 .left) (z .fits .start) .1, below (z .args .length) _ (toZ-ofZ (z .fits .length)) (c .if3 .left) (z .fits .length) .1))  -- add-e
-    (λ c. search needs)  -- sub-result
-    (λ c. search needs)  -- part-result-start
-    (λ c. search needs)  -- part-result-end
-    (λ c. search needs)  -- slice-aggregate-result-3
-    (λ c. let z = c .before .before .before .before .before in
-    noted-comment (z .args .sheet) (z .args .standing) (z .args .start) (z .args .length) _ _ (toZ-ofZ (z .fits .start)) (toZ-ofZ (z .fits .length)) (c .before .before .before .if2 .left) (c .before .before .if3 .left) (zero-not (z .args .length) (c .before .before .before .before .if1 .left)) (c .before .if4 .taken))  -- returns-4
-    (λ c. let z = c .before .before .before .before .before in
-    noted-past (z .args .sheet) (z .args .standing) (z .args .start) (z .args .length) _ _ (toZ-ofZ (z .fits .start)) (toZ-ofZ (z .fits .length)) (c .before .before .before .if2 .left) (c .before .before .if3 .left) (zero-not (z .args .length) (c .before .before .before .before .if1 .left)) (c .before .if4 .left)))  -- returns-5
+    (λ c κs. search needs)  -- note-part-requires
+    (λ c. omega (arith, stands (c .before) (c .if1 .taken)))  -- sub-result
+    (λ c. omega (arith, stands (c .before) (c .if1 .taken)))  -- part-result-start
+    (λ c. omega (arith, stands (c .before) (c .if1 .taken)))  -- part-result-end
+    (λ c. omega (arith, waits (c .before) (c .if1 .left)))  -- sub-result-2
+    (λ c. omega (arith, waits (c .before) (c .if1 .left)))  -- part-result-start-2
+    (λ c. omega (arith, waits (c .before) (c .if1 .left)))  -- part-result-end-2
+    (λ c. let a = c .before .before .before .before .before .args in cut-sheet (a .sheet) (a .standing) (a .start) (a .length) (numbers (c .before .before)) (c .before .if1 .taken))  -- returns
+    (λ c. let a = c .before .before .before .before .before .args in cut-note (a .sheet) (a .standing) (a .start) (a .length) (numbers (c .before .before)) (c .before .if1 .left)))  -- returns-2

@@ -1,23 +1,22 @@
 -- `sheet::fill_rules` meets its contract: the table, with the rules that are left stored behind those that are, is the table filled.
-use Prim.Native.Nat.{_+_, _*_, _-_, _≤_, _<_}
+use Prim.Native.Nat.{_-_}
 use borrow.Author.Needs.{needs}
 use native.Mathlib.Omega.{arith}
-use mathlib.Core.Path.{_≡_, refl, sym, ap, _∙_, subst}
+use mathlib.Core.Path.{_≡_, sym, ap, _∙_, subst}
 use denote.Ref.{now}
 use lib.ListN.{length}
-use Rattle.names.specs.Chain.{chain}
 use Rattle.names.specs.Read.{map}
-use Rattle.rules.specs.Tables.{Filled, overlay, ruleRecords}
+use Rattle.rules.specs.Tables.{asWords}
 use Rattle.rules.specs.declared.Next.{Next}
 use Rattle.rules.specs.declared.Next.the-variants.{Another, Finished}
-use Rattle.sheet.specs.Texts.{moreRules, noMore, rules}
-use Rattle.sheet.specs.Seen.{seenParted, RoomFrom, fillFrom}
+use Rattle.sheet.specs.Texts.{moreRules, rules}
+use Rattle.sheet.specs.Seen.{seenParted, fillFromAs}
 use Rattle.sheet.proofs.Turns.{sizes, step, Turned, turned, Filling, filling-begin, filling-more, filling-end, room-rule, room-unrefused}
 use Rattle.sheet.proofs.texts.fill_rules.Statement.{statement}
 use Rattle.sheet.proofs.texts.fill_rules.Tie as tie
 
 abbrev Inv-loop : tie.InvT-loop
-Inv-loop s p table₀ slot₀ at₀ separator₀ table slot at separator = Filling s p table₀ table slot at separator
+Inv-loop s p table₀ slot₀ at₀ separator₀ table slot at separator = Filling asWords s p table₀ table slot at separator
 
 abbrev μ-loop : tie.MeasureT-loop
 μ-loop s p table₀ slot₀ at₀ separator₀ table slot at separator = length s - at
@@ -45,15 +44,15 @@ none c = let r = c .before .before .before in let l = r .before .before .before 
 
 -- the table at the end
 end : (c : tie.After-enum-told2 Inv-loop μ-loop) → let f = c .before .before .before .before .before .before .before in let a = f .before .before .before .before .before .args in
-    (length (f .fill-rule .last .1 .1 .1 .0) ≡ length (now (a .table))) × (f .fill-rule .last .1 .1 .1 .0 ≡ fillFrom (now (a .table)) 0 (rules (now (a .s)) (a .p)))
+    (length (f .fill-rule .last .1 .1 .1 .0) ≡ length (now (a .table))) × (f .fill-rule .last .1 .1 .1 .0 ≡ fillFromAs asWords (now (a .table)) 0 (rules (now (a .s)) (a .p)))
 end c = let f = c .before .before .before .before .before .before .before in let b = f .before .before in let l = b .before in let a = l .before .before .args in
-    filling-end (now (a .s)) (a .p) (now (a .table)) (l .loop .table) _ (l .loop .slot) (l .loop .at) (l .loop .separator) (l .loop .inv) (b .blanks .ensures) (f .fill-rule .ensures .1) (none c)
+    filling-end asWords (now (a .s)) (a .p) (now (a .table)) (l .loop .table) _ (l .loop .slot) (l .loop .at) (l .loop .separator) (l .loop .inv) (b .blanks .ensures) (f .fill-rule .ensures .1) (none c)
 
 -- rules that have room are not refused
 never : (c : tie.After-enum-told Inv-loop μ-loop) → let f = c .before .before .before .before in let a = f .before .before .before .before .before .args in
-    (length (f .fill-rule .last .1 .1 .1 .0) ≡ length (now (a .table))) × (f .fill-rule .last .1 .1 .1 .0 ≡ fillFrom (now (a .table)) 0 (rules (now (a .s)) (a .p)))
+    (length (f .fill-rule .last .1 .1 .1 .0) ≡ length (now (a .table))) × (f .fill-rule .last .1 .1 .1 .0 ≡ fillFromAs asWords (now (a .table)) 0 (rules (now (a .s)) (a .p)))
 never c = let l = c .before .before .before .before .before .before .before in let a = l .before .before .args in
-    absurd (room-unrefused (l .loop .separator) (now (a .s)) (l .loop .at) (length (l .loop .table)) (l .loop .slot) (l .loop .inv .room) (read (c .before .before) ∙ ap seenParted (c .enum-told .given .1)))
+    absurd (room-unrefused (l .loop .separator) (now (a .s)) (l .loop .at) 16 (length (l .loop .table)) (l .loop .slot) (l .loop .inv .room) (read (c .before .before) ∙ ap seenParted (c .enum-told .given .1)))
 
 pub fill-rules-spec : {M : Type 1} → statement M
 fill-rules-spec =
@@ -61,9 +60,9 @@ fill-rules-spec =
     (tie.spec
     Inv-loop
     μ-loop
-    (λ c. filling-begin (now (c .before .args .s)) (c .before .args .p) (now (c .before .args .table)) (c .before .pre .1))  -- loop-holds
+    (λ c. filling-begin asWords (now (c .before .args .s)) (c .before .args .p) (now (c .before .args .table)) (c .before .pre .1))  -- loop-holds
     (λ c κs. search needs)  -- blanks-requires
-    (λ c κs. let l = c .before .before in let a = l .before .before .args in (l .before .before .pre .0, room-rule (l .loop .separator) (now (a .s)) (l .loop .at) (length (l .loop .table)) (l .loop .slot) (l .loop .inv .room) (c .before .blanks .ensures)))  -- fill-rule-requires
+    (λ c κs. let l = c .before .before in let a = l .before .before .args in (l .before .before .pre .0, room-rule (l .loop .separator) (now (a .s)) (l .loop .at) 16 (length (l .loop .table)) (l .loop .slot) (l .loop .inv .room) (c .before .blanks .ensures)))  -- fill-rule-requires
     (λ c κs. search needs)  -- parted-requires
     (λ c. search needs)  -- enum-known-r
     (λ c. search needs)  -- enum-told
@@ -77,4 +76,4 @@ fill-rules-spec =
     (λ c. end c .1)  -- returns-2
     (λ c. let t = another (c .before) in omega (arith, t .later, t .stays))  -- loop-less
     (λ c. let f = c .before .before .before .before .before .before .before .before in let b = f .before .before in let l = b .before in let a = l .before .before .args in
-    filling-more (now (a .s)) (a .p) (now (a .table)) (l .loop .table) _ (l .loop .slot) (l .loop .at) (l .loop .separator) (l .before .before .pre .0) (l .loop .inv) (b .blanks .ensures) (f .fill-rule .ensures .1) (another (c .before))))  -- loop-again
+    filling-more asWords (now (a .s)) (a .p) (now (a .table)) (l .loop .table) _ (l .loop .slot) (l .loop .at) (l .loop .separator) (l .before .before .pre .0) (l .loop .inv) (b .blanks .ensures) (f .fill-rule .ensures .1) (another (c .before))))  -- loop-again

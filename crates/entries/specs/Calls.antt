@@ -1,0 +1,39 @@
+-- The calls for C: the numbers each of them leaves, and the table of bytes afterwards.
+use Prim.Native.Nat.{ℕ}
+use mathlib.Core.List.{List, [], _∷_}
+use mathlib.Core.Bool.{Bool, true, false}
+use lib.IntN.{ℤ}
+use Rattle.sheet.specs.Sheets.{sheetReadingBytes}
+use Rattle.sheet.specs.PartReadings.{partReadingBytes}
+use Rattle.sheet.specs.Notes.{notePart}
+use Rattle.sheet.specs.declared.Answer.{Answer}
+use Rattle.sheet.specs.declared.PartAnswer.{PartAnswer}
+
+-- 1 or 0
+abbrev pub flag : Bool → ℕ
+flag true = 1
+flag false = 0
+
+-- number, place, records, warnings
+abbrev pub sheetNumbers : Answer → List ℕ
+sheetNumbers a = a.number ∷ a.place ∷ a.records ∷ a.warnings ∷ []
+
+-- the same, the next part's place, and whether this was the last
+abbrev pub partNumbers : PartAnswer → List ℕ
+partNumbers a = a.number ∷ a.place ∷ a.records ∷ a.warnings ∷ a.next ∷ flag a.last ∷ []
+
+-- whether a part of the sheet, from where, to where
+abbrev pub noteNumbers : Bool × (ℕ × ℕ) → List ℕ
+noteNumbers x = flag (x .0) ∷ x .1 .0 ∷ x .1 .1 ∷ []
+
+-- a sheet s is read into a table t: the numbers of the reading with room for as many records as t has whole 64 bytes, and the bytes of its records
+unfoldable pub sheetCall : List ℕ → List ℕ → List ℕ × List ℕ
+sheetCall s t = (sheetNumbers (sheetReadingBytes s t .0), sheetReadingBytes s t .1)
+
+-- the part that begins at p is read
+unfoldable pub partCall : List ℕ → ℕ → List ℕ → List ℕ × List ℕ
+partCall s p t = (partNumbers (partReadingBytes s p t .0), partReadingBytes s p t .1)
+
+-- the note for a comment's start and length, in a sheet and beside a standing note of so many bytes
+unfoldable pub noteCall : ℕ → ℕ → ℤ → ℤ → List ℕ
+noteCall sheet note start length = noteNumbers (notePart sheet note start length)

@@ -1,0 +1,73 @@
+// The calls for C: both readings over bytes, and the note's numbers. include/lorukinde.h has the same words.
+ghost use mathlib.Core.List.{[], _∷_};
+ghost use mathlib.Core.Path.{_≡_};
+ghost use Rattle.entries.specs.Calls.{flag, sheetCall, partCall, noteCall};
+use sheet::note_part;
+use sheet::read_part_bytes;
+use sheet::read_sheet_bytes;
+
+// 1 or 0.
+fn flag_of(x: bool) -> u32
+    ensures { λ r. ⌜ r ≡ flag x ⌝ }
+{
+    if x { 1 } else { 0 }
+}
+
+// Reads a sheet: the number is returned, place, records and warnings are stored.
+#[no_mangle]
+pub extern "C" fn lorukinde_read_sheet(
+    sheet: &[u8],
+    table: &mut [u8],
+    place: &mut u32,
+    records: &mut u32,
+    warnings: &mut u32,
+) -> u32
+    ensures { λ r. ⌜ (r ∷ now (place .exit) ∷ now (records .exit) ∷ now (warnings .exit) ∷ [], now (table .exit)) ≡ sheetCall (now (sheet .entry)) (now (table .entry)) ⌝ }
+{
+    let a = read_sheet_bytes(sheet, table);
+    *place = a.place as u32;
+    *records = a.records as u32;
+    *warnings = a.warnings as u32;
+    a.number as u32
+}
+
+// Reads the part that begins at a place: also the next part's place is stored, and 1 if this was the last, else 0.
+#[no_mangle]
+pub extern "C" fn lorukinde_read_part(
+    sheet: &[u8],
+    begin: usize,
+    table: &mut [u8],
+    place: &mut u32,
+    records: &mut u32,
+    warnings: &mut u32,
+    next: &mut u32,
+    last: &mut u32,
+) -> u32
+    ensures { λ r. ⌜ (r ∷ now (place .exit) ∷ now (records .exit) ∷ now (warnings .exit) ∷ now (next .exit) ∷ now (last .exit) ∷ [], now (table .exit)) ≡ partCall (now (sheet .entry)) begin (now (table .entry)) ⌝ }
+{
+    let part = read_part_bytes(sheet, begin, table);
+    *place = part.place as u32;
+    *records = part.records as u32;
+    *warnings = part.warnings as u32;
+    *next = part.next as u32;
+    *last = flag_of(part.last);
+    part.number as u32
+}
+
+// The note shown for a rule: 1 where it is a part of the sheet, 0 of the caller's standing note; from where and to where is stored.
+#[no_mangle]
+pub extern "C" fn lorukinde_note(
+    sheet_len: usize,
+    note_len: usize,
+    start: i32,
+    length: i32,
+    from: &mut usize,
+    to: &mut usize,
+) -> u32
+    ensures { λ r. ⌜ (r ∷ now (from .exit) ∷ now (to .exit) ∷ []) ≡ noteCall «sheet_len» «note_len» start length ⌝ }
+{
+    let part = note_part(sheet_len, note_len, start, length);
+    *from = part.from;
+    *to = part.to;
+    flag_of(part.sheets)
+}

@@ -1,0 +1,186 @@
+-- Each number of an answer is small: a place is one of the sheet's, a rule has no more records than a byte more than the text has, and there are no more rules nor warnings than bytes.
+use Prim.Native.Nat.{ℕ, zero, suc, _+_, _*_, _/_, _≤_, _<_}
+use mathlib.Core.List.{List, [], _∷_}
+use mathlib.Core.Bool.{Bool, true, false, not}
+use mathlib.Core.Path.{_≡_, refl}
+use native.Mathlib.Omega.{arith}
+use native.Mathlib.Decide.{decLt}
+use lib.Dec.{ltb, eqb}
+use lib.IntN.{ℤ}
+use lib.ListN.{length, take, drop, length-drop}
+use lib.Seq.{length-take-le}
+use borrow.Author.Tests.{lt-ltb, le-ltb}
+use Rattle.names.specs.Tests.{if_then_else_}
+use Rattle.names.specs.Quotes.{flips}
+use Rattle.names.specs.Read.{Read, got, none, refused, follow, nothing, pure, map}
+use Rattle.names.specs.Chain.{before, last, chainIn, chain}
+use Rattle.names.specs.Texts.{blanks}
+use Rattle.names.proofs.Local.{Ends, past}
+use Rattle.names.proofs.Skips.{skip-sure}
+use Rattle.names.proofs.Cut.{blanks-local}
+use Rattle.rules.specs.Rules.{Rule}
+use Rattle.rules.specs.declared.Next.{Next}
+use Rattle.rules.specs.declared.Next.the-variants.{Another, Finished}
+use Rattle.rules.proofs.Cut.{Found}
+use Rattle.sheet.specs.Texts.{movedTo, parted, moreRules, noMore, rules, records}
+use Rattle.sheet.specs.Warnings.{isLetter, warned, warningsIn, warningsOf}
+use Rattle.sheet.specs.Sheets.{answerOf, refusal, judgedText, textOf, sheetOf, sheetReadingBytes, wordsIn}
+use Rattle.sheet.specs.Parts.{begins, partEnd}
+use Rattle.sheet.specs.PartReadings.{partAnswerOf, withNext, partTo, partRefusal, partOf, partReadingBytes}
+use Rattle.sheet.specs.declared.Answer.{Answer}
+use Rattle.sheet.specs.declared.PartAnswer.{PartAnswer}
+use Rattle.sheet.proofs.Moves.{takes}
+use Rattle.sheet.proofs.Turns.{more-sized, records-more, records-none}
+use Rattle.sheet.proofs.PartLaws.{begins-fits, end-fits}
+
+-- ---- warnings
+
+-- no more than bytes
+warnings-few : (inside letter : Bool) (s : List ℕ) → warningsIn inside letter s ≤ length s
+unfolding warningsIn
+warnings-few inside letter [] = omega arith
+warnings-few inside letter (b ∷ s) = go (warned inside letter (b ∷ s) b) (warnings-few (flips b inside) (isLetter b) s)
+  where
+    go : (c : Bool) {n : ℕ} → n ≤ length s → (if c then 1 else 0) + n ≤ suc (length s)
+    go true h = omega arith
+    go false h = omega arith
+
+-- ---- places and records
+
+-- a refusal is at a place up to n
+abbrev Near : {A : Type 0} → ℕ → Read A → Type 0
+Near n (got a j) = Unit {0}
+Near n none = Unit {0}
+Near n (refused k p) = p ≤ n
+
+-- a rule of a text is refused at one of its places
+more-near : (x : Next) (s : List ℕ) (i : ℕ) → i ≤ length s → Near (length s) (moreRules x s i)
+unfolding moreRules blanks
+more-near (Another q) s i h =
+    let b = skip-sure (eqb 32) s i in
+    let w : b .0 ≤ length s = omega (arith, past blanks-local (b .1) .stays) in
+    rw (b .1) (go (b .0) w (parted q s (b .0)))
+  where
+    go : (j : ℕ) → j ≤ length s → (x : Read (Rule × Next)) → Near (length s) (movedTo j x)
+    go j w (got a k) = tt
+    go j w none = tt
+    go j w (refused e p) = w
+more-near Finished s i h = tt
+
+-- so many rules have records for so many slots, and a refusal is near
+abbrev Bounded : ℕ → ℕ → Read (List Rule × Unit {0}) → Type 0
+Bounded m n (got l j) = length (records (l .0)) ≤ n * 4097
+Bounded m n none = Unit {0}
+Bounded m n (refused k p) = p ≤ m
+
+module _ (s : List ℕ) (small : length s ≤ 4096) where
+  -- a rule more
+  bounded-more : (n : ℕ) (r : Rule) (j : ℕ) → length (r .1) ≤ length s → (x : Read (List Rule × Unit {0})) → Bounded (length s) n x → Bounded (length s) (suc n) (follow s j x (λ l. pure (before r l)) nothing)
+  bounded-more n r j h (got l k) b = omega (arith, records-more r (l .0))
+  bounded-more n r j h none b = tt
+  bounded-more n r j h (refused e p) b = b
+
+  -- no rule more
+  finished : (n i : ℕ) → Bounded (length s) (suc n) (follow s i (moreRules Finished s i) (λ c. map (before (c .0)) (chainIn n moreRules noMore (c .1))) (map last (noMore Finished)))
+  unfolding moreRules noMore
+  finished n i = omega (arith, records-none)
+
+  bounded : (n : ℕ) (x : Next) (i : ℕ) → i ≤ length s → Bounded (length s) n (chainIn n moreRules noMore x s i)
+  unfolding chainIn noMore
+  bounded zero x i h = tt
+  bounded (suc n) (Another q) i h = go (λ y j w. bounded n y j w) (moreRules (Another q) s i) (takes (Another q) s i) (more-sized q s i) (more-near (Another q) s i h)
+    where
+      go : ((y : Next) (j : ℕ) → j ≤ length s → Bounded (length s) n (chainIn n moreRules noMore y s j)) →
+          (r : Read (Rule × Next)) → Ends (λ j. (i < j) × (j ≤ length s)) r → Found (λ x. length (x .0 .1) ≤ length s) r → Near (length s) r →
+          Bounded (length s) (suc n) (follow s i r (λ c. map (before (c .0)) (chainIn n moreRules noMore (c .1))) (map last (noMore (Another q))))
+      go ih (got c j) e f w = bounded-more n (c .0) j f (chainIn n moreRules noMore (c .1) s j) (ih (c .1) j (e .1))
+      go ih none e f w = tt
+      go ih (refused k p) e f w = w
+  bounded (suc n) Finished i h = finished n i
+
+  -- the rules of a text
+  rules-bounded : (p : ℕ) → p ≤ length s → Bounded (length s) 4097 (rules s p)
+  unfolding rules chain
+  rules-bounded p h = go (rules s p) (bounded (suc (length s)) (Another 0) p h)
+    where
+      go : (x : Read (List Rule × Unit {0})) → Bounded (length s) (suc (length s)) x → Bounded (length s) 4097 x
+      go (got l j) b = omega arith
+      go none b = tt
+      go (refused k q) b = b
+
+-- ---- answers
+
+-- the numbers of an answer are small
+pub record Small (a : Answer) : Type 0 where
+  pub place : a .place ≤ 4096
+  pub records : a .records ≤ 16785409
+  pub warnings : a .warnings ≤ 4096
+
+-- a refusal's
+refusal-small : (number place : ℕ) → place ≤ 4096 → Small (refusal number place .0)
+refusal-small number place h = record { place = h; records = omega arith; warnings = omega arith }
+
+-- a text's
+pub text-small : (s : List ℕ) (p n : ℕ) → length s ≤ 4096 → p ≤ length s → Small (textOf s p n .0)
+unfolding textOf
+text-small s p n small h = go (rules s p) (rules-bounded s small p h)
+  where
+    full : (l : List (List ℤ)) → length l ≤ 16785409 → (b : Bool) → Small ((if b then refusal 10 p else (answerOf 0 0 (length l) (warningsOf (drop p s)), l)) .0)
+    full l k true = refusal-small 10 p (omega arith)
+    full l k false = record { place = omega arith; records = k; warnings = omega (arith, warnings-few false false (drop p s), length-drop p s) }
+
+    go : (x : Read (List Rule × Unit {0})) → Bounded (length s) 4097 x → Small (judgedText s p n x .0)
+    go (got l j) b = full (records (l .0)) b (ltb (n / 16) (length (records (l .0))))
+    go none b = refusal-small 3 p (omega arith)
+    go (refused k q) b = refusal-small k q (omega arith)
+
+-- a sheet's
+sheet-small : (s : List ℕ) (n : ℕ) → Small (sheetOf s n .0)
+unfolding sheetOf
+sheet-small s n = go (decLt 4096 (length s))
+  where
+    go : Dec (4096 < length s) → Small ((if ltb 4096 (length s) then refusal 1 0 else textOf s 0 n) .0)
+    go (yes h) = rw (lt-ltb 4096 (length s) h) (refusal-small 1 0 (omega arith))
+    go (no h) = let k : length s ≤ 4096 = omega arith in rw (le-ltb 4096 (length s) k) (text-small s 0 n k (omega arith))
+
+pub sheet-bytes-small : (s t : List ℕ) → Small (sheetReadingBytes s t .0)
+unfolding sheetReadingBytes
+sheet-bytes-small s t = sheet-small s (wordsIn (length t))
+
+-- ---- parts
+
+-- the numbers of a part's answer are small
+pub record SmallPart (a : PartAnswer) : Type 0 where
+  pub same : Small (answerOf (a .number) (a .place) (a .records) (a .warnings))
+  pub next : a .next ≤ 4096
+
+-- with the next part's place
+next-small : (s : List ℕ) (e : ℕ) (a : Answer) → length s ≤ 4096 → Small a → SmallPart (withNext s e a)
+unfolding withNext
+next-small s e a small h = go (decLt e (length s))
+  where
+    go : Dec (e < length s) → SmallPart (if ltb e (length s) then partAnswerOf a (suc e) false else partAnswerOf a 0 true)
+    go (yes k) = rw (lt-ltb e (length s) k) (record { same = h; next = omega arith })
+    go (no k) = let l : length s ≤ e = omega arith in rw (le-ltb e (length s) l) (record { same = h; next = omega arith })
+
+part-small : (s : List ℕ) (p n : ℕ) → SmallPart (partOf s p n .0)
+unfolding partOf partEnd
+part-small s p n = go (decLt 4096 (length s)) (begins s p) refl
+  where
+    refused-small : (number : ℕ) → SmallPart (partRefusal number .0)
+    refused-small number = record { same = refusal-small number 0 (omega arith); next = omega arith }
+
+    text : length s ≤ 4096 → begins s p ≡ true → SmallPart (partTo s p n (partEnd s p) .0)
+    text k e =
+        let f = end-fits s p (begins-fits s p e) in
+        let l = length-take-le (partEnd s p) s f in
+        next-small s (partEnd s p) (textOf (take (partEnd s p) s) p n .0) k (text-small (take (partEnd s p) s) p n (omega arith) (omega arith))
+
+    go : Dec (4096 < length s) → (b : Bool) → begins s p ≡ b → SmallPart ((if ltb 4096 (length s) then partRefusal 1 else if not b then partRefusal 2 else partTo s p n (partEnd s p)) .0)
+    go (yes h) b e = rw (lt-ltb 4096 (length s) h) (refused-small 1)
+    go (no h) true e = let k : length s ≤ 4096 = omega arith in rw (le-ltb 4096 (length s) k) (text k e)
+    go (no h) false e = let k : length s ≤ 4096 = omega arith in rw (le-ltb 4096 (length s) k) (refused-small 2)
+
+pub part-bytes-small : (s : List ℕ) (p : ℕ) (t : List ℕ) → SmallPart (partReadingBytes s p t .0)
+unfolding partReadingBytes
+part-bytes-small s p t = part-small s p (wordsIn (length t))

@@ -1,0 +1,79 @@
+-- `sheet::fill_rules_bytes` meets its contract: the table, with the rules that are left stored behind those that are, is the table filled.
+use Prim.Native.Nat.{_-_}
+use borrow.Author.Needs.{needs}
+use native.Mathlib.Omega.{arith}
+use mathlib.Core.Path.{_≡_, sym, ap, _∙_, subst}
+use denote.Ref.{now}
+use lib.ListN.{length}
+use Rattle.names.specs.Read.{map}
+use Rattle.rules.specs.Tables.{asBytes}
+use Rattle.rules.specs.declared.Next.{Next}
+use Rattle.rules.specs.declared.Next.the-variants.{Another, Finished}
+use Rattle.sheet.specs.Texts.{moreRules, rules}
+use Rattle.sheet.specs.Seen.{seenParted, fillFromAs}
+use Rattle.sheet.proofs.Turns.{sizes, step, Turned, turned, Filling, filling-begin, filling-more, filling-end, room-rule, room-unrefused}
+use Rattle.sheet.proofs.byte_texts.fill_rules_bytes.Statement.{statement}
+use Rattle.sheet.proofs.byte_texts.fill_rules_bytes.Tie as tie
+
+abbrev Inv-loop : tie.InvT-loop
+Inv-loop s p table₀ slot₀ at₀ separator₀ table slot at separator = Filling asBytes s p table₀ table slot at separator
+
+abbrev μ-loop : tie.MeasureT-loop
+μ-loop s p table₀ slot₀ at₀ separator₀ table slot at separator = length s - at
+
+-- what a turn reads, as the code reads it
+abbrev read : (c : tie.After-parted Inv-loop μ-loop) → let l = c .before .before .before .before .before .before in map sizes (moreRules (Another (l .loop .separator))) (now (l .before .before .before .args .s)) (l .loop .at) ≡ seenParted (c .parted .result)
+read c = let b = c .before .before .before .before .before in let l = b .before in
+    sym (step (l .loop .separator) (now (l .before .before .before .args .s)) (l .loop .at) (b .blanks .ensures)) ∙ rw (c .before .before .before .fill-rule-bytes .ensures .0) (c .parted .ensures)
+
+-- a rule, and what follows it
+abbrev turn : (c : tie.After-r Inv-loop μ-loop) → let l = c .before .before .before .before .before .before .before .before in let g = c .r .given .0 in Turned (l .loop .separator) (now (l .before .before .before .args .s)) (l .loop .at) (g .0) (g .1 .0) (g .1 .1 .0 .at)
+turn c = turned _ _ _ (read (c .before .before) ∙ ap seenParted (c .r .given .1))
+
+-- it is followed by another
+abbrev another : (c : tie.After-behind Inv-loop μ-loop) → let r = c .before .before .before in let l = r .before .before .before .before .before .before .before .before in let g = r .r .given .0 in
+    Turned (l .loop .separator) (now (l .before .before .before .args .s)) (l .loop .at) (g .0) (Another (c .behind .given .0 .0)) (g .1 .1 .0 .at)
+another c = let r = c .before .before .before in let l = r .before .before .before .before .before .before .before .before in let g = r .r .given .0 in
+    subst (λ (n : Next). Turned (l .loop .separator) (now (l .before .before .before .args .s)) (l .loop .at) (g .0) n (g .1 .1 .0 .at)) (c .behind .given .1) (turn r)
+
+-- or by none
+abbrev none : (c : tie.After-enum-told2 Inv-loop μ-loop) → let r = c .before .before .before in let l = r .before .before .before .before .before .before .before .before in let g = r .r .given .0 in
+    Turned (l .loop .separator) (now (l .before .before .before .args .s)) (l .loop .at) (g .0) Finished (g .1 .1 .0 .at)
+none c = let r = c .before .before .before in let l = r .before .before .before .before .before .before .before .before in let g = r .r .given .0 in
+    subst (λ (n : Next). Turned (l .loop .separator) (now (l .before .before .before .args .s)) (l .loop .at) (g .0) n (g .1 .1 .0 .at)) (c .enum-told2 .given .1) (turn r)
+
+-- the table at the end
+end : (c : tie.After-enum-told2 Inv-loop μ-loop) → let f = c .before .before .before .before .before .before .before .before in let a = f .before .before .before .before .before .before .args in
+    (length (f .fill-rule-bytes .last .1 .1 .1 .0) ≡ length (now (a .table))) × (f .fill-rule-bytes .last .1 .1 .1 .0 ≡ fillFromAs asBytes (now (a .table)) 0 (rules (now (a .s)) (a .p)))
+end c = let f = c .before .before .before .before .before .before .before .before in let b = f .before .before in let l = b .before in let a = l .before .before .before .args in
+    filling-end asBytes (now (a .s)) (a .p) (now (a .table)) (l .loop .table) _ (l .loop .slot) (l .loop .at) (l .loop .separator) (l .loop .inv) (b .blanks .ensures) (f .fill-rule-bytes .ensures .1) (none c)
+
+-- rules that have room are not refused
+never : (c : tie.After-enum-told Inv-loop μ-loop) → let f = c .before .before .before .before .before in let a = f .before .before .before .before .before .before .args in
+    (length (f .fill-rule-bytes .last .1 .1 .1 .0) ≡ length (now (a .table))) × (f .fill-rule-bytes .last .1 .1 .1 .0 ≡ fillFromAs asBytes (now (a .table)) 0 (rules (now (a .s)) (a .p)))
+never c = let l = c .before .before .before .before .before .before .before .before in let a = l .before .before .before .args in
+    absurd (room-unrefused (l .loop .separator) (now (a .s)) (l .loop .at) 64 (length (l .loop .table)) (l .loop .slot) (l .loop .inv .room) (read (c .before .before) ∙ ap seenParted (c .enum-told .given .1)))
+
+pub fill-rules-bytes-spec : {M : Type 1} → statement M
+fill-rules-bytes-spec =
+    tie.close
+    (tie.spec
+    Inv-loop
+    μ-loop
+    (λ c. filling-begin asBytes (now (c .before .before .args .s)) (c .before .before .args .p) (now (c .before .before .args .table)) (c .before .before .pre .1))  -- loop-holds
+    (λ c κs. search needs)  -- blanks-requires
+    (λ c κs. let l = c .before .before in let a = l .before .before .before .args in (l .before .before .before .pre .0, room-rule (l .loop .separator) (now (a .s)) (l .loop .at) 64 (length (l .loop .table)) (l .loop .slot) (l .loop .inv .room) (c .before .blanks .ensures)))  -- fill-rule-requires
+    (λ c κs. search needs)  -- parted-requires
+    (λ c. search needs)  -- enum-known-r
+    (λ c. search needs)  -- enum-told
+    (λ c. never c .0)  -- same-length
+    (λ c. never c .1)  -- returns
+    (λ c. let t = turn (c .before) in omega (arith, t .few, c .before .before .before .before .before .before .before .before .before .before .before .before .pre .0))  -- add-slot
+    (λ c. let t = turn (c .before) in let l = c .before .before .before .before .before .before .before .before .before in omega (arith, t .few, t .later, t .stays, l .loop .inv .low, l .before .before .before .pre .0))  -- add-slot-2
+    (λ c. search needs)  -- enum-known-behind
+    (λ c. search needs)  -- enum-told-2
+    (λ c. end c .0)  -- same-length-2
+    (λ c. end c .1)  -- returns-2
+    (λ c. let t = another (c .before) in omega (arith, t .later, t .stays))  -- loop-less
+    (λ c. let f = c .before .before .before .before .before .before .before .before .before in let b = f .before .before in let l = b .before in let a = l .before .before .before .args in
+    filling-more asBytes (now (a .s)) (a .p) (now (a .table)) (l .loop .table) _ (l .loop .slot) (l .loop .at) (l .loop .separator) (l .before .before .before .pre .0) (l .loop .inv) (b .blanks .ensures) (f .fill-rule-bytes .ensures .1) (another (c .before))))  -- loop-again

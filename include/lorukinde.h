@@ -1,0 +1,75 @@
+/* Lorukinde: opening hours sheets read into records, and the parts of a sheet read alone. */
+#ifndef LORUKINDE_H
+#define LORUKINDE_H
+
+#include <stddef.h>
+#include <stdint.h>
+
+#ifdef __cplusplus
+extern "C" {
+#endif
+
+/* Of each call the caller keeps this: no pointer is null, not even one with the length 0; each points to so many bytes, or
+ * to one number, that are initialised; what a call writes to (table, and each number) overlaps nothing else that it is given.
+ * A call keeps no pointer, allocates nothing, and changes nothing else. It answers for any bytes and any numbers. */
+
+/* A record is 64 bytes of the table: 16 words of 32 bits, signed (two's complement), each little-endian. A rule's head comes
+ * first, then its items in reading order. Unused words are 0.
+ *
+ *   word 0      from word 1 on
+ *   1 head      separator; 0 open, 1 closed, 2 unknown; comment start; its length; number of items. No comment: 0, 0
+ *   2 years     first, last, step
+ *   3 months    year or 0, first, last
+ *   4 dates     form (1 fixed, 2 weekday, 3 easter), year or 0, month, day or weekday, n signed, weekday offset, day offset;
+ *               the same seven for the end
+ *   5 weeks     first, last, step
+ *   6 weekdays  first, last (Mo 1 to Su 7), day offset, flags from start, from end; bit n-1 for n
+ *   7 holiday   1 public, 2 school; day offset
+ *   8 span      start kind, start, end kind, end, repeat in minutes or -1, open end 0/1
+ *
+ * Comment starts count from the sheet's first byte, inside the quote. */
+#define LORUKINDE_RECORD_BYTES 64
+#define LORUKINDE_SHEET_BYTES 4096
+
+/* What a reading returns, and the place that it stores. */
+enum {
+    LORUKINDE_ACCEPTED = 0,       /* accepted; 0 */
+    LORUKINDE_TOO_LONG = 1,       /* over 4,096 bytes; 0 */
+    LORUKINDE_NO_PART = 2,        /* the given place is no part's beginning; 0 */
+    LORUKINDE_NO_SHAPE = 3,       /* no shape fits; the rule's place */
+    LORUKINDE_RANGE = 4,          /* number out of range; the rule's place */
+    LORUKINDE_WEEK_STEP = 5,      /* week step above 255; the rule's place */
+    LORUKINDE_YEARS_INVERTED = 6, /* years inverted; the rule's place */
+    LORUKINDE_WEEKS_INVERTED = 7, /* weeks inverted; the rule's place */
+    LORUKINDE_POINT_IN_TIME = 8,  /* point in time; the rule's place */
+    LORUKINDE_EASTER_DAY = 9,     /* bare day after easter; the rule's place */
+    LORUKINDE_NO_ROOM = 10        /* all else good, more records than whole 64-byte groups in the table; the text's first byte */
+};
+
+/* Reads a sheet. The number is returned; place, records and warnings are stored.
+ * The numbers are those of the reading of the sheet with a table of table_len / 64 records. The table afterwards is the table
+ * before with the records written over it from its first byte on, 64 bytes each: every other byte is unchanged.
+ * Every refusal (1, 3 to 10) gives 0 records and 0 warnings and changes no byte of the table. */
+uint32_t lorukinde_read_sheet(const uint8_t *sheet, size_t sheet_len, uint8_t *table, size_t table_len, uint32_t *place,
+                              uint32_t *records, uint32_t *warnings);
+
+/* Reads the part of the sheet that begins at the place begin. The number is returned; place, records and warnings are stored,
+ * the next part's place in next, and in last 1 if this was the last part (then next is 0), else 0.
+ * A part ends at a `;` outside quotes; the first begins at 0. Each part has the whole table.
+ * The numbers are those of the reading of that part with a table of table_len / 64 records, places counted from the sheet's first
+ * byte. The table afterwards is as for a sheet.
+ * Every refusal gives 0 records and 0 warnings and changes no byte of the table; 1 and 2 give next 0, last; the others the true next. */
+uint32_t lorukinde_read_part(const uint8_t *sheet, size_t sheet_len, size_t begin, uint8_t *table, size_t table_len,
+                             uint32_t *place, uint32_t *records, uint32_t *warnings, uint32_t *next, uint32_t *last);
+
+/* The note shown for a rule, by the comment's start and length out of its head. Returned is 1 where the note is a part of the
+ * sheet, 0 where it is a part of the caller's standing note; where it begins and where it ends are stored in from and to.
+ * It is the comment out of the sheet; or the standing note, whole, if the length is 0; for numbers outside the sheet and a
+ * length not 0, the empty part at the standing note's start. */
+uint32_t lorukinde_note(size_t sheet_len, size_t note_len, int32_t start, int32_t length, size_t *from, size_t *to);
+
+#ifdef __cplusplus
+}
+#endif
+
+#endif
