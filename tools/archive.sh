@@ -3,9 +3,17 @@
 # The library is x86-64 code: elsewhere a cross compiler and qemu-x86_64 stand in.
 root=$(cd "$(dirname "${BASH_SOURCE[0]}")/.." && pwd)
 archive=${ARCHIVE:-$root/target/staticlib/libentries.a}
+. "$root/tools/need.sh"
 case $(uname -m) in
-x86_64) compiler="gcc" run=() ;;
-*) compiler="x86_64-linux-gnu-gcc -static" run=(qemu-x86_64) ;;
+x86_64)
+    need gcc gcc libc6-dev
+    compiler="gcc" run=()
+    ;;
+*)
+    need x86_64-linux-gnu-gcc gcc-x86-64-linux-gnu libc6-dev-amd64-cross
+    need qemu-x86_64 qemu-user
+    compiler="x86_64-linux-gnu-gcc -static" run=(qemu-x86_64)
+    ;;
 esac
 [ -f "$archive" ] || (cd "$root" && rt staticlib entries)
 

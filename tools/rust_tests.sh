@@ -8,15 +8,7 @@ set -euo pipefail
 root=$(cd "$(dirname "$0")/.." && pwd)
 export LORUKINDE_LIB_DIR=${LORUKINDE_LIB_DIR:-$root/target/staticlib}
 
-# need COMMAND PACKAGE...: installs the packages if there is no such command
-need() {
-    if command -v "$1" >/dev/null; then return; fi
-    local as_root=()
-    [ "$(id -u)" = 0 ] || as_root=(sudo)
-    "${as_root[@]}" apt-get update -q >/dev/null
-    "${as_root[@]}" apt-get install -y -q --no-install-recommends "${@:2}" >/dev/null
-}
-
+. "$root/tools/need.sh"
 need cc gcc libc6-dev
 need cargo cargo rustc
 tests=()
