@@ -1,5 +1,7 @@
 // What the programs write to standard output: numbers, a blank or the line's end behind each.
 ghost use Prim.Native.Nat.{_+_, _≤_};
+ghost use mathlib.Core.Path.{_≡_};
+ghost use lib.IntN.{natAbs};
 ghost use lib.ListN.{length};
 use libc::STDOUT_FILENO;
 
@@ -10,7 +12,9 @@ pub fn print_number(n: u64, end: u8) {
 }
 
 // A word without its sign. (Below 0, `!w` is one less.)
-pub fn size(w: i32) -> u64 {
+pub fn size(w: i32) -> u64
+    ensures { λ r. ⌜ r ≡ natAbs w ⌝ }
+{
     if w < 0 {
         return (!w) as u64 + 1;
     }
