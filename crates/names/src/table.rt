@@ -6,6 +6,7 @@ ghost use Rattle.names.specs.Seen.{Reads, seenWord};
 use crate::Cursor;
 use crate::Num;
 use crate::Word;
+use crate::tests::within;
 
 // The kinds of names.
 pub const WEEKDAY: u8 = 1;
@@ -79,11 +80,9 @@ fn told(kind: u8) -> usize
 fn lower(b: u8) -> u8
     ensures { λ r. ⌜ r ≡ names.lower b ⌝ }
 {
-    if 65 <= b {
-        if b <= 90 { b + 32 } else { b }
-    } else {
-        b
-    }
+    // a sum, which is shorter work than a choice of one of two letters
+    let up: u8 = if within(65, 90, b as u32) { 32 } else { 0 };
+    b + up
 }
 
 // As what a letter of the text counts for a name of this kind: `PH`, `SH`, `week`, `day`, `days` are spelled so.

@@ -27,7 +27,7 @@ use Rattle.records.proofs.ItemRead as item-read
 use Rattle.rules.specs.Musts.{missing}
 use Rattle.rules.specs.Comments.{noComment, commentApart}
 use Rattle.rules.specs.Modifiers.{tailOf, withComment, selected}
-use Rattle.rules.specs.Pieces.{end}
+use Rattle.rules.specs.Pieces.{more, end}
 use Rattle.rules.specs.Seen.{seenTail}
 use Rattle.rules.specs.declared.Comment.{Comment}
 use Rattle.rules.specs.declared.Stage.{Stage}
@@ -185,3 +185,22 @@ begun-end Holidays k = refl
 begun-end LastHolidays k = refl
 begun-end LastWeekdays k = refl
 begun-end Times k = refl
+
+-- weekdays or holidays, where the list has not changed its kind
+abbrev alike : List ℕ
+alike = 6 ∷ 7 ∷ []
+
+-- the same may stand behind them
+pub alike-more : (x : Stage) → OneOf alike (tagOf stage-type x) → more x ≡ more Weekdays
+unfolding more
+alike-more Beginning k = absurd (miss alike 0 tt k)
+alike-more Always k = absurd (miss alike 1 tt k)
+alike-more Colon k = absurd (miss alike 2 tt k)
+alike-more Years k = absurd (miss alike 3 tt k)
+alike-more MonthDays k = absurd (miss alike 4 tt k)
+alike-more Weeks k = absurd (miss alike 5 tt k)
+alike-more Weekdays k = refl
+alike-more Holidays k = refl
+alike-more LastHolidays k = absurd (miss alike 8 tt k)
+alike-more LastWeekdays k = absurd (miss alike 9 tt k)
+alike-more Times k = absurd (miss alike 10 tt k)

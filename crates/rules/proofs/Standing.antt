@@ -2,6 +2,7 @@
 use Prim.Native.Nat.{ℕ, suc, _+_, _-_, _*_, _≤_}
 use mathlib.Core.Bool.{Bool, true, false, _&&_}
 use mathlib.Core.List.{List}
+use mathlib.Core.Logic.{_⊎_, inl, inr}
 use mathlib.Core.Path.{_≡_, refl, ap, _∙_}
 use native.Mathlib.Omega.{arith}
 use borrow.Author.Tests.{eq-eqb, ne-eqb}
@@ -11,7 +12,7 @@ use Rattle.names.specs.Tests.{within}
 use Rattle.names.specs.Read.{Read, got, none, refused, follow, nothing, pure, unless, when, one, _>>_, _or_}
 use Rattle.names.specs.Texts.{byte, blank}
 use Rattle.names.specs.Numbers.{isDigit, digit, enough, upTo, digits, clockBehind, number, year, hour}
-use Rattle.names.specs.Names.{word, name, weekday, month, event, holiday, week}
+use Rattle.names.specs.Names.{word, name, weekday, month, event, easter, holiday, week}
 use Rattle.names.proofs.Laws.{one-is, within-above, within-range, or-none}
 use Rattle.names.proofs.Search.{no-word, word-letter}
 use Rattle.records.specs.declared.Item.{Item}
@@ -21,9 +22,9 @@ use Rattle.times.specs.Spans.{spanBehind, spanShape, timeItem, eventItemBehind}
 use Rattle.times.specs.Meanings.{spanMeaning}
 use Rattle.days.specs.Weekdays.{weekdayBehind, weekdayShape, weekdayMeaning, weekdayItem, weekdayItemBehind}
 use Rattle.days.specs.Holidays.{holidayBehind, holidayShape, holidayMeaning, holidayItem, holidayItemBehind}
-use Rattle.dates.specs.Dates.{optionalYear}
+use Rattle.dates.specs.Dates.{optionalYear, dayBehind}
 use Rattle.dates.specs.Years.{yearBehind, yearShape, yearMeaning, yearItem, yearItemBehind}
-use Rattle.dates.specs.MonthDays.{monthDayBehind, monthDayItem}
+use Rattle.dates.specs.MonthDays.{monthItemBehind, monthDayBehind, monthDayItem}
 use Rattle.dates.specs.declared.Year.the-variants.{Absent, Given}
 use Rattle.dates.specs.Weeks.{weekItem}
 use Rattle.rules.specs.Musts.{must}
@@ -117,6 +118,11 @@ module _ (s : List ℕ) (i : ℕ) where
     unfolding monthDayItem
     month-day = rw (no-year-before (year-none no-digit), w)
 
+    -- none, where the name begins no date
+    no-date : (k ≡ month → ⊥) → (k ≡ easter → ⊥) → monthDayItem s i ≡ none
+    unfolding monthDayBehind monthItemBehind dayBehind
+    no-date e f = month-day ∙ rw (ne-eqb k easter f, ne-eqb k month e)
+
     -- a weekday or a holiday, by its kind
     pub any-weekday : k ≡ weekday → anyDay s i ≡ weekdayItemBehind i v s j
     unfolding anyDay
@@ -152,6 +158,23 @@ module _ (s : List ℕ) (i : ℕ) where
     pub no-week : (k ≡ week → ⊥) → weeksOrSmall s i ≡ small s i
     unfolding weeksOrSmall weeks
     no-week e = rw (name-other week w e)
+
+    -- behind years, by the name's kind
+    pub years-weekday : k ≡ weekday → behindYears s i ≡ weekdayItemBehind i v s j
+    unfolding behindYears
+    years-weekday e = rw (no-date (λ f. omega arith) (λ f. omega arith)) (no-week (λ f. omega arith) ∙ small-day (λ f. omega arith) ∙ any-weekday e)
+
+    pub years-date : (k ≡ month) ⊎ (k ≡ easter) → behindYears s i ≡ monthDayBehind i Absent (k, v) s j
+    unfolding behindYears
+    years-date e = or-none s i (monthDayItem s i) weeksOrSmall (go e) ∙ month-day
+      where
+        go : (k ≡ month) ⊎ (k ≡ easter) → weeksOrSmall s i ≡ none
+        go (inl e) = no-week (λ f. omega arith) ∙ small-day (λ f. omega arith) ∙ any-other (λ f. omega arith) (λ f. omega arith)
+        go (inr e) = no-week (λ f. omega arith) ∙ small-day (λ f. omega arith) ∙ any-other (λ f. omega arith) (λ f. omega arith)
+
+    pub years-other : ((k ≡ month) ⊎ (k ≡ easter) → ⊥) → behindYears s i ≡ weeksOrSmall s i
+    unfolding behindYears
+    years-other e = rw (no-date (λ f. e (inl f)) (λ f. e (inr f)))
 
   -- ---- where no name stands
 

@@ -16,8 +16,10 @@ use dates::year_item_behind;
 use days::holiday_item_behind;
 use days::weekday_item_behind;
 use names::Cursor;
+use names::EASTER;
 use names::EVENT;
 use names::HOLIDAY;
+use names::MONTH;
 use names::Num;
 use names::Step;
 use names::WEEK;
@@ -81,11 +83,11 @@ fn first_behind(s: &[u8], c: Cursor, kind: u8, value: u8, d: Cursor) -> ItemRead
     requires { ⌜ word (now s) (c .at) ≡ got (kind, value) (d .at) ⌝ }
     ensures { λ r. ⌜ firsts.behindYears (now (s .entry)) (c .at) ≡ seenItem r ⌝ }
 {
-    let days = month_day_item_behind(s, c.at, d, Year::Absent, kind, value);
-    let ItemRead::Missing = days else {
-        return days;
-    };
-    weeks_or_small_behind(s, c, kind, value, d)
+    match kind {
+        WEEKDAY => weekday_item_behind(s, c.at, d, value),
+        MONTH | EASTER => month_day_item_behind(s, c.at, d, Year::Absent, kind, value),
+        _ => weeks_or_small_behind(s, c, kind, value, d),
+    }
 }
 
 // Small: weekdays (and holidays) or times.

@@ -1,20 +1,22 @@
 -- The names of a text and their warnings, place by place.
-use Prim.Native.Nat.{ℕ, suc, _+_, _-_, _≤_, _<_}
+use Prim.Native.Nat.{ℕ, _+_, _-_, _≤_, _<_}
 use mathlib.Core.List.{List, [], _∷_, _++_, append-nil}
-use mathlib.Core.Bool.{Bool, true, false, _&&_, not}
+use mathlib.Core.Bool.{Bool, true, false, _&&_, not, true≢false}
 use mathlib.Core.Path.{_≡_, refl, sym, ap, _∙_}
 use native.Mathlib.Omega.{arith}
 use native.Mathlib.Numerals.{add-one}
+use borrow.Author.Tests.{eqb-true}
+use lib.Dec.{eqb}
 use lib.ListN.{length, getD, take, drop, take-append-drop, drop-of-length-le}
 use lib.Seq.{length-take-le, drop-cons}
-use Rattle.names.specs.Tests.{if_then_else_}
+use Rattle.names.specs.Tests.{if_then_else_, within}
 use Rattle.names.specs.Quotes.{flips}
 use Rattle.names.specs.Read.{Read, got, none, refused}
 use Rattle.names.specs.Names.{Word, word}
 use Rattle.names.specs.Spellings.{spelt, warns}
 use Rattle.names.proofs.Local.{moved, keep, stop-end}
 use Rattle.names.proofs.NameCut.{word-local}
-use Rattle.sheet.specs.Warnings.{isLetter, calls, warned, warningsIn}
+use Rattle.sheet.specs.Warnings.{isLetter, calls, warned, warningsIn, SameBehind}
 
 -- a name of a text is the name of its rest, moved
 word-from : (s : List ℕ) (i : ℕ) → i ≤ length s → word s i ≡ moved keep i (word (drop i s) 0)
@@ -41,27 +43,47 @@ calls-none s i h f = go (word (drop i s) 0) (sym (word-from s i h) ∙ f) where
   go none q = refl
   go (refused k p) q = cc
 
--- one warning at most
-at-most : (b : Bool) {r : ℕ} → r ≡ (if b then 1 else 0) → r ≤ 1
-at-most true e = omega arith
-at-most false e = omega arith
-
-pub one-at-most : (inside letter : Bool) (s : List ℕ) (i : ℕ) {r : ℕ} → r ≡ (if warned inside letter (drop i s) (getD s i 0) then 1 else 0) → r ≤ 1
-one-at-most inside letter s i e = at-most (warned inside letter (drop i s) (getD s i 0)) e
+-- one warning at most at a place
+pub at-most : (w : Bool) → (if w then 1 else 0) ≤ 1
+at-most true = omega arith
+at-most false = omega arith
 
 -- the warnings from a place on: the one there, and those behind
-warnings-next : (inside letter : Bool) (s : List ℕ) (i : ℕ) → i < length s → warningsIn inside letter (drop i s) ≡ (if warned inside letter (drop i s) (getD s i 0) then 1 else 0) + warningsIn (flips (getD s i 0) inside) (isLetter (getD s i 0)) (drop (suc i) s)
+warnings-next : (inside letter : Bool) (s : List ℕ) (i : ℕ) → i < length s → warningsIn inside letter (drop i s) ≡ (if warned inside letter (drop i s) (getD s i 0) then 1 else 0) + warningsIn (flips (getD s i 0) inside) (isLetter (getD s i 0)) (drop (i + 1) s)
 unfolding warningsIn
-warnings-next inside letter s i h = rw (drop-cons s i 0 h)
+warnings-next inside letter s i h = rw (drop-cons s i 0 h, add-one i)
 
--- the same, for a pass that has counted n so far and counts r more
-pub warnings-more : (inside letter flipped lettered : Bool) (s : List ℕ) (i n r : ℕ) → i < length s → r ≡ (if warned inside letter (drop i s) (getD s i 0) then 1 else 0) → flipped ≡ flips (getD s i 0) inside → lettered ≡ isLetter (getD s i 0) → n + warningsIn inside letter (drop i s) ≡ (n + r) + warningsIn flipped lettered (drop (i + 1) s)
-warnings-more inside letter flipped lettered s i n r h e f g =
-    let a : warningsIn inside letter (drop i s) ≡ r + warningsIn flipped lettered (drop (suc i) s) = rw (warnings-next inside letter s i h, e, f, g) in
-    let b : warningsIn flipped lettered (drop (i + 1) s) ≡ warningsIn flipped lettered (drop (suc i) s) = ap (λ j. warningsIn flipped lettered (drop j s)) (add-one i) in
-    omega arith
+-- a quote is no letter
+no-quote : (b : ℕ) (inside : Bool) → isLetter b ≡ true → flips b inside ≡ inside
+unfolding isLetter within
+no-quote b inside e = go (eqb b 34) refl
+  where
+    go : (t : Bool) → eqb b 34 ≡ t → (if t then not inside else inside) ≡ inside
+    go true q = absurd (true≢false (sym e ∙ ap isLetter (eqb-true b 34 q)))
+    go false q = refl
+
+module _ (s : List ℕ) (i : ℕ) (h : i < length s) where
+  -- behind a letter, a letter more
+  pub letter-more : isLetter (getD s i 0) ≡ true → (inside : Bool) → warningsIn inside true (drop i s) ≡ warningsIn inside true (drop (i + 1) s)
+  letter-more e true = warnings-next true true s i h ∙ rw (no-quote (getD s i 0) true e, e) (omega arith)
+  letter-more e false = warnings-next false true s i h ∙ rw (no-quote (getD s i 0) false e, e) (omega arith)
+
+  -- behind a letter, none
+  pub letter-over : isLetter (getD s i 0) ≡ false → (inside : Bool) → warningsIn inside true (drop i s) ≡ warningsIn inside false (drop i s)
+  letter-over e true = warnings-next true true s i h ∙ sym (warnings-next true false s i h)
+  letter-over e false = warnings-next false true s i h ∙ sym (warnings-next false false s i h ∙ (rw (e)))
+
+  -- a letter behind none: the warning there, and those behind its letters
+  pub warnings-word : (inside : Bool) (j : ℕ) {w : Bool} → isLetter (getD s i 0) ≡ true → w ≡ (not inside && calls (drop i s) (word (drop i s) 0)) → SameBehind s (i + 1) j → warningsIn inside false (drop i s) ≡ (if w then 1 else 0) + warningsIn inside false (drop j s)
+  warnings-word true j e q g = warnings-next true false s i h ∙ rw (q, no-quote (getD s i 0) true e, e, g .1 true)
+  warnings-word false j e q g = warnings-next false false s i h ∙ rw (q, no-quote (getD s i 0) false e, e, g .1 false)
+
+  -- no letter: no warning there
+  pub warnings-sign : (inside flipped : Bool) → isLetter (getD s i 0) ≡ false → flipped ≡ flips (getD s i 0) inside → warningsIn inside false (drop i s) ≡ warningsIn flipped false (drop (i + 1) s)
+  warnings-sign true flipped e f = warnings-next true false s i h ∙ rw (f, e) (omega arith)
+  warnings-sign false flipped e f = warnings-next false false s i h ∙ rw (f, e) (omega arith)
 
 -- no warning behind the end
-pub warnings-done : (inside letter : Bool) (s : List ℕ) (i n : ℕ) → length s ≤ i → n + warningsIn inside letter (drop i s) ≡ n
+pub warnings-none : (inside letter : Bool) (s : List ℕ) (i : ℕ) → length s ≤ i → warningsIn inside letter (drop i s) ≡ 0
 unfolding warningsIn
-warnings-done inside letter s i n h = let k : warningsIn inside letter (drop i s) ≡ 0 = ap (warningsIn inside letter) (drop-of-length-le s h) in omega arith
+warnings-none inside letter s i h = ap (warningsIn inside letter) (drop-of-length-le s h)

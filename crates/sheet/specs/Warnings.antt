@@ -1,8 +1,9 @@
 -- Warnings: a pass of its own over a text that is accepted.
-use Prim.Native.Nat.{ℕ, _+_}
+use Prim.Native.Nat.{ℕ, _+_, _≤_}
 use mathlib.Core.List.{List, [], _∷_}
-use mathlib.Core.Bool.{Bool, false, _&&_, _||_, not}
-use lib.ListN.{take}
+use mathlib.Core.Bool.{Bool, true, false, _&&_, _||_, not}
+use mathlib.Core.Path.{_≡_}
+use lib.ListN.{take, drop}
 use Rattle.names.specs.Tests.{if_then_else_, within}
 use Rattle.names.specs.Quotes.{flips}
 use Rattle.names.specs.Read.{Read, got, none, refused}
@@ -31,3 +32,7 @@ warningsIn inside letter (b ∷ s) = (if warned inside letter (b ∷ s) b then 1
 -- the warnings of a text
 abbrev pub warningsOf : List ℕ → ℕ
 warningsOf = warningsIn false false
+
+-- place j is not before place i, and behind a letter the text has as many warnings from i on as behind none from j on
+abbrev pub SameBehind : List ℕ → ℕ → ℕ → Type 0
+SameBehind s i j = (i ≤ j) × ((inside : Bool) → warningsIn inside true (drop i s) ≡ warningsIn inside false (drop j s))

@@ -1,8 +1,8 @@
 // Warnings: a pass of its own over a text that is accepted.
 ghost use Prim.Native.Nat.{_<_};
+ghost use mathlib.Core.Bool.{_&&_, not};
 ghost use mathlib.Core.Path.{_≡_};
-ghost use lib.ListN.{length, getD, drop};
-ghost use Rattle.names.specs.Tests.{if_then_else_};
+ghost use lib.ListN.{length, drop};
 ghost use Rattle.names.specs.Names.{word};
 ghost use Rattle.sheet.specs.Warnings as warnings;
 use crate::parts::flips;
@@ -38,38 +38,50 @@ fn calls(s: &[u8], at: usize) -> bool
     }
 }
 
-// 1 where a name that calls for a warning begins: outside quotes, and behind no letter.
-fn warning_at(s: &[u8], at: usize, inside: bool, letter: bool) -> usize
+// Whether the name at a place calls for a warning and stands outside quotes.
+fn warned(s: &[u8], at: usize, inside: bool) -> bool
     requires { ⌜ at < length (now s) ⌝ }
-    ensures { λ r. ⌜ r ≡ (if warnings.warned inside letter (drop at (now (s .entry))) (getD (now (s .entry)) at 0) then 1 else 0) ⌝ }
+    ensures { λ r. ⌜ r ≡ (not inside && warnings.calls (drop at (now (s .entry))) (word (drop at (now (s .entry))) 0)) ⌝ }
 {
     if inside {
-        return 0;
+        return false;
     }
-    if letter {
-        return 0;
-    }
-    if is_letter(s[at]) {
-        if calls(s, at) { 1 } else { 0 }
-    } else {
-        0
-    }
+    calls(s, at)
 }
 
-// The warnings of the text from place p on.
+// The place behind letters, as many as there are.
+fn behind_letters(s: &[u8], at: usize) -> usize
+    ensures { λ r. ⌜ warnings.SameBehind (now (s .entry)) at r ⌝ }
+{
+    let mut i = at;
+    while i < s.len() {
+        if is_letter(s[i]) {
+            i += 1;
+        } else {
+            return i;
+        }
+    }
+    i
+}
+
+// The warnings of the text from place p on. Only the first of letters can begin a name.
 pub fn warnings_of(s: &[u8], p: usize) -> usize
     ensures { λ r. ⌜ r ≡ warnings.warningsOf (drop p (now (s .entry))) ⌝ }
 {
     let mut n: usize = 0;
     let mut inside = false;
-    let mut letter = false;
     let mut i = p;
     while i < s.len() {
-        n += warning_at(s, i, inside, letter);
         let b = s[i];
-        inside = flips(b, inside);
-        letter = is_letter(b);
-        i += 1;
+        if is_letter(b) {
+            if warned(s, i, inside) {
+                n += 1;
+            }
+            i = behind_letters(s, i + 1);
+        } else {
+            inside = flips(b, inside);
+            i += 1;
+        }
     }
     n
 }
