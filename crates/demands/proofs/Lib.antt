@@ -11,3 +11,4 @@ pub mod TogetherWords
 pub mod TogetherBytes
 pub mod Opened
 pub mod Proved
+pub mod Numbers

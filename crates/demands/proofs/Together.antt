@@ -143,9 +143,9 @@ two-judged : (u s : List ℕ) (p q n : ℕ) (P Q : ℕ → Type 0) (x y : Read (
     Two n (judgedText u p n x) (judgedText s q n y) (judgedText s p n (joined x y))
 two-judged u s p q n P Q (got l i) (got m j) w f g = rw (w, records-append (l .0) (m .0)) (two-kept n p q p (records (l .0)) (records (m .0)) (warningsOf (drop p u)) (warningsOf (drop q s)))
 two-judged u s p q n P Q (got l i) none w f g = two-refused n (judgedText u p n (got l i)) (refusal 3 q) (refusal 3 p) (λ a b c. omega arith) (omega arith)
-two-judged u s p q n P Q (got l i) (refused k o) w f g = two-refused n (judgedText u p n (got l i)) (refusal k o) (refusal k o) (λ a b c. omega arith) g
+two-judged u s p q n P Q (got l i) (refused k o) w f g = two-refused n (judgedText u p n (got l i)) (refusal k o) (refusal k o) (λ a b c. omega arith) (g .0)
 two-judged u s p q n P Q none y w f g = two-refused n (refusal 3 p) (judgedText s q n y) (refusal 3 p) (λ a b c. omega arith) (omega arith)
-two-judged u s p q n P Q (refused k o) y w f g = two-refused n (refusal k o) (judgedText s q n y) (refusal k o) (λ a b c. omega arith) f
+two-judged u s p q n P Q (refused k o) y w f g = two-refused n (refusal k o) (judgedText s q n y) (refusal k o) (λ a b c. omega arith) (f .0)
 
 -- the text from a part's beginning on: that part, and the text behind the `;` that ends it
 two-texts : (s : List ℕ) (p n : ℕ) → partEnd s p < length s → Two n (textOf (take (partEnd s p) s) p n) (textOf s (suc (partEnd s p)) n) (textOf s p n)

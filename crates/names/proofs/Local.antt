@@ -40,11 +40,15 @@ pub record Past (k : ℕ) (s : List ℕ) (i j : ℕ) : Type 0 where
   pub moves : i + k ≤ j
   pub stays : j ≤ max i (length s)
 
--- where a reading found something, the place after it is so; the number of a refusal is not 0
+-- the number of a refusal, from 1 to 9: 10 is no reader's, but the table's
+abbrev pub Number : ℕ → Type 0
+Number k = (0 < k) × (k ≤ 9)
+
+-- where a reading found something, the place after it is so; a refusal has a number of its own
 abbrev pub Ends : {A : Type 0} → (ℕ → Type 0) → Read A → Type 0
 Ends P (got a j) = P j
 Ends P none = Unit {0}
-Ends P (refused k p) = 0 < k
+Ends P (refused k p) = Number k
 
 -- a reading in a text that stands n bytes later: places move, and sh says how the value does
 abbrev pub moved : {A : Type 0} → (ℕ → A → A) → ℕ → Read A → Read A
@@ -115,7 +119,7 @@ module _ {Q : Tail} {u : List ℕ} where
   pure-local x = record { ends = λ s v i z w. (omega arith, w); same = λ s v i z w. refl }
 
   -- a refusal
-  pub refuse-local : {A : Type 0} {sh : ℕ → A → A} {a c : Bool} {l : ℕ} (k p : ℕ) → 0 < k → Local Q sh u a c l (refuse k (length u + p)) (refuse k p)
+  pub refuse-local : {A : Type 0} {sh : ℕ → A → A} {a c : Bool} {l : ℕ} (k p : ℕ) → Number k → Local Q sh u a c l (refuse k (length u + p)) (refuse k p)
   refuse-local k p h = record { ends = λ s v i z w. h; same = λ s v i z w. refl }
 
   -- the place

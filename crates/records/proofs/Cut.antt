@@ -1,12 +1,12 @@
 -- An item depends on nothing before its place and nothing from a `;` outside quotes on.
-use Prim.Native.Nat.{ℕ, _+_, _<_}
+use Prim.Native.Nat.{ℕ, _+_}
 use mathlib.Core.List.{List}
 use mathlib.Core.Bool.{Bool, true, false}
 use native.Mathlib.Omega.{arith}
 use lib.ListN.{length}
 use Rattle.names.specs.Tests.{if_then_else_}
 use Rattle.names.specs.Read.{Reader}
-use Rattle.names.proofs.Local.{Stop, keep, Local, loose, nothing-local, pure-local, refuse-local, here-local, branch-moved, then-local}
+use Rattle.names.proofs.Local.{Number, Stop, keep, Local, loose, nothing-local, pure-local, refuse-local, here-local, branch-moved, then-local}
 use Rattle.records.specs.Items.{judged, meant, item}
 use Rattle.records.specs.declared.Item.{Item}
 use Rattle.records.specs.declared.Meant.{Meant}
@@ -16,10 +16,10 @@ use Rattle.records.specs.declared.Meant.the-variants.{Is, Refused}
 abbrev pub Alike : {A : Type 0} → List ℕ → ℕ → Reader A → Type 0
 Alike u k m = Local Stop keep u false false k m m
 
--- what refuses has a number that is not 0
+-- what refuses has a refusal's number
 abbrev pub Refuses : Meant → Type 0
 Refuses (Is a) = Unit {0}
-Refuses (Refused k) = 0 < k
+Refuses (Refused k) = Number k
 
 -- one or the other, by a test
 pub refuses-if : (t : Bool) (x y : Meant) → Refuses x → Refuses y → Refuses (if t then x else y)
