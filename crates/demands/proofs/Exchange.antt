@@ -16,7 +16,7 @@ use lib.Seq.{take-append-le, take-append-seam, drop-append-seam, getD-append-sea
 use borrow.Author.Tests.{le-ltb, lt-ltb}
 use Rattle.names.specs.Quotes.{insideOf}
 use Rattle.sheet.specs.Parts.{begins, partIn, partEnd}
-use Rattle.sheet.specs.Sheets.{tableAfter}
+use Rattle.sheet.specs.Sheets.{written}
 use Rattle.sheet.specs.PartReadings.{withNext, partOf, partReading}
 use Rattle.demands.specs.Moved.{movedPart}
 use Rattle.sheet.specs.declared.PartAnswer.{PartAnswer}
@@ -43,10 +43,6 @@ pub data Left (a x y b : List ℕ) (n : ℕ) : ℕ → Type 0 where
 pub data Was (a x y b : List ℕ) : ℕ → Type 0 where
   before : {p : ℕ} → p < length a → begins (a ++ (x ++ b)) p ≡ true → Was a x y b p
   behind : (r : ℕ) → 0 < r → begins (a ++ (x ++ b)) (length a + length x + r) ≡ true → Was a x y b (length a + length y + r)
-
--- what a call gives: the answer, and the table t with the records written over it
-abbrev pub written : List ℤ → PartAnswer × List (List ℤ) → PartAnswer × List ℤ
-written t r = (r .0, tableAfter t (r .1))
 
 -- what the exchange leaves of the call for the part that begins at a place of the first sheet, where t was lent to it and t′ is lent to the second
 pub data LeftCall (a x y b : List ℕ) (t t′ : List ℤ) : ℕ → Type 0 where
