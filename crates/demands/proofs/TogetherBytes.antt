@@ -11,7 +11,8 @@ use Rattle.records.proofs.Stores.{length-bytes}
 use Rattle.rules.specs.Tables.{asWords, asBytes, laid}
 use Rattle.sheet.specs.Sheets.{writtenAs, sheetOf, sheetReading, wordsIn, sheetReadingBytes}
 use Rattle.sheet.specs.PartReadings.{partOf, partReading, partReadingBytes}
-use Rattle.demands.proofs.TogetherWords.{Sixteen, part-held, sheet-held}
+use Rattle.sheet.proofs.Copies.{Sixteen}
+use Rattle.demands.proofs.TogetherWords.{part-held, sheet-held}
 
 module _ (rest : List ℕ) where
   -- a word's bytes stored in the bytes of words

@@ -2,12 +2,16 @@
 use Prim.Native.Nat.{ℕ, suc, _+_, _*_, _≤_, _<_}
 use mathlib.Core.List.{List, [], _∷_}
 use mathlib.Core.List as list
+use mathlib.Core.Bool.{Bool, true, false}
 use mathlib.Core.Path.{_≡_, refl, sym, ap, _∙_, subst}
 use native.Mathlib.Omega.{arith}
 use native.Mathlib.Nat.{zero-add, suc-mul, mul-le-mul-right, le-trans}
+use borrow.Author.Tests.{lt-ltb, le-ltb}
+use lib.Dec.{ltb}
 use lib.IntN.{ℤ}
 use lib.ListN.{length, set}
 use lib.Seq.{sets, set-comm, length-sets}
+use Rattle.names.specs.Tests.{if_then_else_}
 use Rattle.names.specs.Read.{Read, got, none, refused, Reader, follow, nothing, pure, map}
 use Rattle.names.specs.Chain.{before, chain}
 use Rattle.names.proofs.Local.{past-one}
@@ -17,7 +21,7 @@ use Rattle.records.proofs.Stores.{length-bytes}
 use Rattle.rules.specs.Pieces.{more, stageBehind, piece, end}
 use Rattle.rules.specs.Rules.{opening, headOf, Rule, ruleOf, behind, rule}
 use Rattle.rules.specs.Heads.{headWords}
-use Rattle.rules.specs.Tables.{Layout, asWords, asBytes, laid, Holds, RoomIn, FilledAs}
+use Rattle.rules.specs.Tables.{Layout, asWords, asBytes, laid, kept, Holds, RoomIn, FilledAs, FilledWhereRoom}
 use Rattle.rules.specs.declared.Comment.{Comment}
 use Rattle.rules.specs.declared.Opening.{Opening}
 use Rattle.rules.specs.declared.Stage.{Stage}
@@ -119,27 +123,27 @@ module _ (s : List ℕ) where
   unfolding rule behind
   rule-is separator i e = rw e
 
-  pub fits-opening : (w separator i l slot : ℕ) {o : Opening} {j : ℕ} → opening s i ≡ got o j → RoomIn w l slot (rule separator s i) → Fits w l slot 0 (o .stage) s j
+  fits-opening : (w separator i l slot : ℕ) {o : Opening} {j : ℕ} → opening s i ≡ got o j → RoomIn w l slot (rule separator s i) → Fits w l slot 0 (o .stage) s j
   fits-opening w separator i l slot {o} {j} e h =
       let P : Rule → Type 0 = λ r. (slot + suc (length (r .1))) * w ≤ l in
       holds-less (λ r. P (ruleOf separator (o .comment) r)) (Left w l slot 0) (chain piece end (o .stage) s j) (λ r k. fewer w l _ _ k (omega arith)) (holds-map P s j (ruleOf separator (o .comment)) (chain piece end (o .stage) s j) (subst (RoomIn w l slot) (rule-is separator i e) h))
 
   module _ (w l slot n : ℕ) (x : Stage) (i : ℕ) (h : Fits w l slot n x s i) where
     -- there is room for the head and n items
-    pub fits-here : (slot + suc n) * w ≤ l
+    fits-here : (slot + suc n) * w ≤ l
     fits-here = holds-so (Left w l slot n) (chain piece end x s i) h (λ r k. fewer w l _ _ k (omega arith))
 
     -- an item more
-    pub fits-more : {a : Item} {j : ℕ} → more x s i ≡ got a j → Fits w l slot (n + 1) (stageBehind x a) s j
+    fits-more : {a : Item} {j : ℕ} → more x s i ≡ got a j → Fits w l slot (n + 1) (stageBehind x a) s j
     fits-more {a} {j} e =
         holds-less (λ r. Left w l slot n (before a r)) (Left w l slot (n + 1)) (chain piece end (stageBehind x a) s j) (λ r k. fewer w l _ _ k (omega arith)) (holds-map (Left w l slot n) s j (before a) (chain piece end (stageBehind x a) s j) (rw (pieces-are x s i, e) at h))
 
     -- no refusal
-    pub fits-unrefused : {k p : ℕ} → more x s i ≡ refused k p → ⊥
+    fits-unrefused : {k p : ℕ} → more x s i ≡ refused k p → ⊥
     fits-unrefused e = unrefused (Left w l slot n) s i (λ r. r) (chain piece end x s i) h (piece-refused (λ r. r) x s i e)
 
     -- nor at the end
-    pub fits-ended : {A : Type 0} (f : Tail → A) {k p : ℕ} → more x s i ≡ none → map f (end x) s i ≡ refused k p → ⊥
+    fits-ended : {A : Type 0} (f : Tail → A) {k p : ℕ} → more x s i ≡ none → map f (end x) s i ≡ refused k p → ⊥
     fits-ended f e g = unrefused (Left w l slot n) s i (λ r. f (r .1)) (chain piece end x s i) h (piece-end (λ r. f (r .1)) x s i e ∙ g)
 
   module _ {A : Type 0} (d : Layout A) where
@@ -187,7 +191,7 @@ module _ (separator : ℕ) (wide : Comment) (h : Head) (s : List ℕ) where
     whole t table slot j (refused k p) e f = e
 
     -- at the end the table is filled
-    pub filled-end : (t table : List A) (slot n i₀ j i k : ℕ) {o : Opening} (x : Stage) → opening s i₀ ≡ got o j → wide ≡ o .comment → more x s i ≡ none →
+    filled-end : (t table : List A) (slot n i₀ j i k : ℕ) {o : Opening} (x : Stage) → opening s i₀ ≡ got o j → wide ≡ o .comment → more x s i ≡ none →
         rest separator wide n x s i ≡ rest separator wide 0 (o .stage) s j → fill d table (slot + suc n) x s i ≡ fill d t (slot + suc 0) (o .stage) s j →
         map (λ p. headOf separator p wide n) (end x) s i ≡ got h k → FilledAs d t slot (sets table (slot * d .width) (d .cells (headWords h))) (rule separator s i₀)
     filled-end t table slot n i₀ j i k {o} x e w none-left counts fills ends =
@@ -210,30 +214,88 @@ module _ (separator : ℕ) (wide : Comment) (h : Head) (s : List ℕ) where
 
 -- ---- a turn
 
--- the table t is filled from a stage y at a place j on: n items are stored, and the stage x at the place i is what is left
+-- the table t is filled from a stage y at a place j on: n items are stored, and the stage x at the place i is what is left. Where t has room for all, the table has them
 pub record Turn {A : Type 0} (d : Layout A) (separator : ℕ) (wide : Comment) (slot : ℕ) (s : List ℕ) (t : List A) (y : Stage) (j : ℕ) (table : List A) (n : ℕ) (x : Stage) (i : ℕ) : Type 0 where
   pub low : n ≤ i
   pub few : n ≤ length s
   pub counts : rest separator wide n x s i ≡ rest separator wide 0 y s j
   pub same : length table ≡ length t
-  pub fits : Fits (d .width) (length t) slot n x s i
-  pub fills : fill d table (slot + suc n) x s i ≡ fill d t (slot + suc 0) y s j
+  pub fits : Fits (d .width) (length t) slot 0 y s j → Fits (d .width) (length t) slot n x s i
+  pub fills : Fits (d .width) (length t) slot 0 y s j → fill d table (slot + suc n) x s i ≡ fill d t (slot + suc 0) y s j
+
+-- a table that has room for more slots has the slot k
+has-slot : (w k l m n : ℕ) → l ≡ m → n * w ≤ m → suc k ≤ n → k * w + w ≤ l
+has-slot w k l m n e h b = subst (λ (x : ℕ). x ≤ l) (suc-mul k w) (fewer w l (suc k) n (subst (λ (x : ℕ). n * w ≤ x) (sym e) h) b)
+
+module _ {A : Type 0} (d : Layout A) where
+  -- a record is stored in a slot that the table has
+  pub kept-fits : (t : List A) (k : ℕ) (r : List ℤ) → k * d .width + d .width ≤ length t → kept d t k r ≡ sets t (k * d .width) (d .cells r)
+  unfolding kept
+  kept-fits t k r h = rw (le-ltb (length t) (k * d .width + d .width) h)
+
+  -- and nowhere else
+  pub kept-none : (t : List A) (k : ℕ) (r : List ℤ) → length t < k * d .width + d .width → kept d t k r ≡ t
+  unfolding kept
+  kept-none t k r h = rw (lt-ltb (length t) (k * d .width + d .width) h)
+
+  -- the table keeps its length
+  pub length-kept : (t : List A) (k : ℕ) (r : List ℤ) → length (kept d t k r) ≡ length t
+  unfolding kept
+  length-kept t k r = go (ltb (length t) (k * d .width + d .width))
+    where
+      go : (b : Bool) → length (if b then t else sets t (k * d .width) (d .cells r)) ≡ length t
+      go true = refl
+      go false = length-sets t (k * d .width) (d .cells r)
 
 module _ {A : Type 0} (d : Layout A) (separator : ℕ) (wide : Comment) (slot : ℕ) (s : List ℕ) (t : List A) (y : Stage) (j : ℕ) where
   -- no item yet
-  pub turn-begin : Fits (d .width) (length t) slot 0 y s j → Turn d separator wide slot s t y j t 0 y j
-  turn-begin h = record { low = omega arith; few = omega arith; counts = refl; same = refl; fits = h; fills = refl }
+  pub turn-begin : Turn d separator wide slot s t y j t 0 y j
+  turn-begin = record { low = omega arith; few = omega arith; counts = refl; same = refl; fits = λ h. h; fills = λ h. refl }
 
   -- an item more
   pub turn-more : (table : List A) (n : ℕ) (x : Stage) (i : ℕ) {a : Item} {k : ℕ} → Turn d separator wide slot s t y j table n x i → more x s i ≡ got a k →
-      Turn d separator wide slot s t y j (sets table ((slot + (n + 1)) * d .width) (d .cells (wordsOf a))) (n + 1) (stageBehind x a) k
+      Turn d separator wide slot s t y j (kept d table (slot + (n + 1)) (wordsOf a)) (n + 1) (stageBehind x a) k
   turn-more table n x i {a} {k} z e =
       let p = past-one (more-alike x) e in
       record {
         low = omega (arith, z .low, p);
         few = omega (arith, z .low, p);
         counts = sym (counted-more separator s wide n x i e) ∙ z .counts;
-        same = length-sets table ((slot + (n + 1)) * d .width) (d .cells (wordsOf a)) ∙ z .same;
-        fits = fits-more s (d .width) (length t) slot n x i (z .fits) e;
-        fills = sym (fill-more s d table slot n x i e) ∙ z .fills;
+        same = length-kept d table (slot + (n + 1)) (wordsOf a) ∙ z .same;
+        fits = then-fits;
+        fills = λ h.
+            ap (λ (l : List A). fill d l (slot + suc (n + 1)) (stageBehind x a) s k) (kept-fits d table (slot + (n + 1)) (wordsOf a) (room (fits-here s (d .width) (length t) slot (n + 1) (stageBehind x a) k (then-fits h))))
+            ∙ sym (fill-more s d table slot n x i e)
+            ∙ z .fills h;
       }
+    where
+      then-fits : Fits (d .width) (length t) slot 0 y s j → Fits (d .width) (length t) slot (n + 1) (stageBehind x a) s k
+      then-fits h = fits-more s (d .width) (length t) slot n x i (z .fits h) e
+
+      room : (slot + suc (n + 1)) * d .width ≤ length t → (slot + (n + 1)) * d .width + d .width ≤ length table
+      room h = has-slot (d .width) (slot + (n + 1)) (length table) (length t) (slot + suc (n + 1)) (z .same) h (omega arith)
+
+-- ---- the end, where the table had room for the rule
+
+module _ {A : Type 0} (d : Layout A) (separator : ℕ) (wide : Comment) (slot : ℕ) (s : List ℕ) (t : List A) (i₀ : ℕ) {o : Opening} {j : ℕ} (opened : opening s i₀ ≡ got o j) (w : wide ≡ o .comment) (table : List A) (n : ℕ) (x : Stage) (i : ℕ) (z : Turn d separator wide slot s t (o .stage) j table n x i) where
+  -- there is room for what is left
+  room-left : RoomIn (d .width) (length t) slot (rule separator s i₀) → Fits (d .width) (length t) slot n x s i
+  room-left r = z .fits (fits-opening s (d .width) separator i₀ (length t) slot opened r)
+
+  -- the head is stored
+  pub where-ended : (h : Head) → Fitting d h → {k : ℕ} → more x s i ≡ none → map (λ p. headOf separator p wide n) (end x) s i ≡ got h k → FilledWhereRoom d t slot (kept d table slot (headWords h)) (rule separator s i₀)
+  where-ended h fits {k} e g r =
+      let f = fits-opening s (d .width) separator i₀ (length t) slot opened r in
+      subst (λ (l : List A). FilledAs d t slot l (rule separator s i₀)) (sym (kept-fits d table slot (headWords h) (room (fits-here s (d .width) (length t) slot n x i (z .fits f)))))
+      (filled-end separator wide h s d fits t table slot n i₀ j i k x opened w e (z .counts) (z .fills f) g)
+    where
+      room : (slot + suc n) * d .width ≤ length t → slot * d .width + d .width ≤ length table
+      room h = has-slot (d .width) slot (length table) (length t) (slot + suc n) (z .same) h (omega arith)
+
+  -- a rule that has room is not refused
+  pub where-refused : (l : List A) {k p : ℕ} → more x s i ≡ refused k p → FilledWhereRoom d t slot l (rule separator s i₀)
+  where-refused l e r = absurd (fits-unrefused s (d .width) (length t) slot n x i (room-left r) e)
+
+  -- nor at its end
+  pub where-endless : (l : List A) {B : Type 0} (f : Tail → B) {k p : ℕ} → more x s i ≡ none → map f (end x) s i ≡ refused k p → FilledWhereRoom d t slot l (rule separator s i₀)
+  where-endless l f e g r = absurd (fits-ended s (d .width) (length t) slot n x i (room-left r) f e g)

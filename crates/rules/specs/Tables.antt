@@ -2,9 +2,11 @@
 use Prim.Native.Nat.{ℕ, suc, _+_, _*_, _≤_}
 use mathlib.Core.List.{List, [], _∷_, map}
 use mathlib.Core.Path.{_≡_}
+use lib.Dec.{ltb}
 use lib.IntN.{ℤ}
 use lib.ListN.{length}
 use lib.Seq.{sets}
+use Rattle.names.specs.Tests.{if_then_else_}
 use Rattle.names.specs.Read.{Read, got, none, refused}
 use Rattle.records.specs.Words.{wordsOf}
 use Rattle.records.specs.Bytes.{recordBytes}
@@ -37,6 +39,10 @@ laid d t k (r ∷ rs) = laid d (sets t (k * d.width) (d.cells r)) (suc k) rs
 abbrev pub overlay : List ℤ → ℕ → List (List ℤ) → List ℤ
 overlay = laid asWords
 
+-- a table with a record in slot k, where it has that slot
+unfoldable pub kept : {A : Type 0} → Layout A → List A → ℕ → List ℤ → List A
+kept d t k r = if ltb (length t) (k * d.width + d.width) then t else sets t (k * d.width) (d.cells r)
+
 -- a reading that found a value, of which P holds
 abbrev pub Holds : {A : Type 0} → (A → Type 0) → Read A → Type 0
 Holds P (got a j) = P a
@@ -47,14 +53,10 @@ Holds P (refused k p) = ⊥
 abbrev pub RoomIn : ℕ → ℕ → ℕ → Read Rule → Type 0
 RoomIn w l k = Holds (λ r. (k + suc (length (r .1))) * w ≤ l)
 
--- in a table of words
-abbrev pub Room : List ℤ → ℕ → Read Rule → Type 0
-Room t = RoomIn 16 (length t)
-
 -- a table t with a rule's records written over it from slot k on
 abbrev pub FilledAs : {A : Type 0} → Layout A → List A → ℕ → List A → Read Rule → Type 0
 FilledAs d t k t′ = Holds (λ r. t′ ≡ laid d t k (ruleRecords r))
 
--- of words
-abbrev pub Filled : List ℤ → ℕ → List ℤ → Read Rule → Type 0
-Filled = FilledAs asWords
+-- the same, where it has room for them
+abbrev pub FilledWhereRoom : {A : Type 0} → Layout A → List A → ℕ → List A → Read Rule → Type 0
+FilledWhereRoom d t k t′ r = RoomIn (d.width) (length t) k r → FilledAs d t k t′ r

@@ -11,7 +11,6 @@ mod separators;
 
 pub use byte_rule::fill_rule_bytes;
 use names::Cursor;
-pub use rule::count_rule;
 pub use rule::fill_rule;
 pub use separators::next_rule;
 

@@ -1,11 +1,11 @@
 // One rule: the loops over its items that count it and that fill a table.
-ghost use Prim.Native.Nat.{_≤_};
+ghost use Prim.Native.Nat.{_≤_, _*_};
 ghost use mathlib.Core.Path.{_≡_};
 ghost use lib.ListN.{length};
 ghost use Rattle.names.specs.Read.{got, map};
 ghost use Rattle.rules.specs.Pieces as pieces;
 ghost use Rattle.rules.specs.Rules as rules;
-ghost use Rattle.rules.specs.Tables.{Room, Filled};
+ghost use Rattle.rules.specs.Tables.{asWords, kept, FilledWhereRoom};
 ghost use Rattle.rules.specs.Seen.{seenRule};
 use crate::Comment;
 use crate::RuleRead;
@@ -31,43 +31,21 @@ pub fn ended(s: &[u8], spot: Spot, separator: u8, wide: Comment, n: usize) -> Ru
     }
 }
 
-// A rule is counted: its head, and the place after it.
-pub fn count_rule(s: &[u8], c: Cursor, separator: u8) -> RuleRead
-    ensures { λ r. ⌜ rules.counted separator (now (s .entry)) (c .at) ≡ seenRule r ⌝ }
+// A record goes into its slot of a table of words, where the table has that slot.
+fn keep(table: &mut [i32], slot: usize, w: [i32; 16])
+    ensures { λ _. ⌜ now (table .exit) ≡ kept asWords (now (table .entry)) slot w ⌝ }
 {
-    let o = begin(s, c);
-    let start = o.opening;
-    let wide = start.comment;
-    let stage = start.stage;
-    let behind = o.next;
-    let mut n: usize = 0;
-    let mut spot = Spot {
-        at: behind.at,
-        stage,
-    };
-    loop {
-        let more = spot.more(s);
-        match more {
-            ItemRead::Got(a, d) => {
-                n += 1;
-                spot = spot.behind(a, d);
-            }
-            ItemRead::Missing => {
-                return ended(s, spot, separator, wide, n);
-            }
-            ItemRead::Refused(k, p) => {
-                return RuleRead::Refused(k, p);
-            }
-        }
+    if slot < table.len() / 16 {
+        store(table, slot, w);
     }
 }
 
-// A rule that has been counted goes into a table from a slot on: its head first, then its items.
+// A rule is read: its head and the place after it. Its records go into a table from a slot on, its head first, then its items, where the table has room for them.
 pub fn fill_rule(s: &[u8], c: Cursor, separator: u8, table: &mut [i32], slot: usize) -> RuleRead
     requires { ⌜ length (now s) ≤ 4096 ⌝ }
-    requires { ⌜ Room (now table) slot (rules.rule separator (now s) (c .at)) ⌝ }
+    requires { ⌜ slot ≤ 4096 * 4097 ⌝ }
     ensures head { λ r. ⌜ rules.counted separator (now (s .entry)) (c .at) ≡ seenRule r ⌝ }
-    ensures filled { λ _. ⌜ Filled (now (table .entry)) slot (now (table .exit)) (rules.rule separator (now (s .entry)) (c .at)) ⌝ }
+    ensures filled { λ _. ⌜ FilledWhereRoom asWords (now (table .entry)) slot (now (table .exit)) (rules.rule separator (now (s .entry)) (c .at)) ⌝ }
 {
     let o = begin(s, c);
     let start = o.opening;
@@ -84,13 +62,13 @@ pub fn fill_rule(s: &[u8], c: Cursor, separator: u8, table: &mut [i32], slot: us
         match more {
             ItemRead::Got(a, d) => {
                 n += 1;
-                store(table, slot + n, words_of(a));
+                keep(table, slot + n, words_of(a));
                 spot = spot.behind(a, d);
             }
             ItemRead::Missing => {
                 let r = ended(s, spot, separator, wide, n);
                 if let RuleRead::Got(h, _) = r {
-                    store(table, slot, head_words(h));
+                    keep(table, slot, head_words(h));
                 }
                 return r;
             }

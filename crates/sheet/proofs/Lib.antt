@@ -3,6 +3,7 @@ pub mod Warned
 pub mod Moves
 pub mod Turns
 pub mod Readings
+pub mod Copies
 pub mod Noted
 pub mod Apart
 pub mod PartLaws

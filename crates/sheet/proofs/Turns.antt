@@ -6,7 +6,6 @@ use mathlib.Core.Path.{_≡_, refl, sym, ap, _∙_, subst}
 use native.Mathlib.Omega.{arith}
 use lib.IntN.{ℤ}
 use lib.ListN.{length, length-append, length-map}
-use lib.Seq.{length-sets}
 use Rattle.names.specs.Read.{Read, got, none, refused, Reader, follow, nothing, pure, map}
 use Rattle.names.specs.Chain.{before, last, chainIn, chain}
 use Rattle.names.specs.Texts.{blanks}
@@ -15,14 +14,14 @@ use Rattle.records.specs.Words.{wordsOf}
 use Rattle.rules.specs.Musts.{must}
 use Rattle.rules.specs.Pieces.{piece, end}
 use Rattle.rules.specs.Rules.{Rule, ruleOf, opening, behind, rule, counted, next}
-use Rattle.rules.specs.Tables.{Layout, ruleRecords, laid, Holds, RoomIn, FilledAs}
+use Rattle.rules.specs.Tables.{Layout, ruleRecords, laid, Holds, RoomIn, FilledAs, FilledWhereRoom}
 use Rattle.rules.specs.declared.Opening.{Opening}
 use Rattle.rules.specs.declared.Next.{Next}
 use Rattle.rules.specs.declared.Next.the-variants.{Another, Finished}
 use Rattle.rules.proofs.Cut.{Found, found-then}
 use Rattle.rules.proofs.Fills.{fewer, holds-map, holds-less}
 use Rattle.sheet.specs.Texts.{movedTo, afterRule, parted, moreRules, noMore, rules, records}
-use Rattle.sheet.specs.Seen.{countFrom, RoomFromIn, fillFromAs}
+use Rattle.sheet.specs.Seen.{countFrom, RoomFromIn, fillFromAs, FilledFrom}
 use Rattle.sheet.specs.declared.Counted.the-variants.{Got, Refused}
 use Rattle.sheet.proofs.Moves.{takes, rules-are}
 
@@ -209,11 +208,6 @@ module _ (separator : ℕ) (s : List ℕ) (i : ℕ) where
     pub counts-refused : {k q : ℕ} → map sizes (moreRules (Another separator)) s i ≡ refused k q → countFrom n p (chain moreRules noMore (Another separator) s i) ≡ Refused k q
     counts-refused e = ap (countFrom n p) (all-refused e)
 
--- before the first rule
-pub counts-begin : (s : List ℕ) (p : ℕ) → countFrom 0 p (rules s p) ≡ countFrom 0 p (chain moreRules noMore (Another 0) s p)
-unfolding rules
-counts-begin s p = refl
-
 -- ---- filling
 
 module _ {A : Type 0} (d : Layout A) where
@@ -222,12 +216,6 @@ module _ {A : Type 0} (d : Layout A) where
   unfolding laid
   laid-append [] b t k = ap (λ (n : ℕ). laid d t n b) (omega arith)
   laid-append (r ∷ a) b t k = let e : suc k + length a ≡ k + suc (length a) = omega arith in laid-append a b _ (suc k) ∙ ap (λ (n : ℕ). laid d (laid d t k (r ∷ a)) n b) e
-
-  -- a table keeps its length
-  pub length-laid : (rs : List (List ℤ)) (t : List A) (k : ℕ) → length (laid d t k rs) ≡ length t
-  unfolding laid
-  length-laid [] t k = refl
-  length-laid (r ∷ rs) t k = length-laid rs _ (suc k) ∙ length-sets t (k * d .width) (d .cells r)
 
 module _ (separator : ℕ) (s : List ℕ) (i : ℕ) where
   module _ (w l slot : ℕ) (h : RoomFromIn w l slot (chain moreRules noMore (Another separator) s i)) where
@@ -238,10 +226,6 @@ module _ (separator : ℕ) (s : List ℕ) (i : ℕ) where
         let Q : List Rule × Unit {0} → Type 0 = λ r. (slot + (items + 1) + length (records (r .0))) * w ≤ l in
         holds-less (λ r. P (before (t .rule) r)) Q (chain moreRules noMore (Another q) s k) (λ r p. fewer w l _ _ p (omega (arith, records-more (t .rule) (r .0), t .size)))
         (holds-map P s k (before (t .rule)) (chain moreRules noMore (Another q) s k) (subst (RoomFromIn w l slot) (all-more separator s i t) h))
-
-    -- for the last rule
-    pub room-end : {items k : ℕ} → Turned separator s i items Finished k → (slot + (items + 1)) * w ≤ l
-    room-end t = let e = records-more (t .rule) [] in let p = subst (RoomFromIn w l slot) (all-end separator s i t) h in fewer w l _ _ p (omega (arith, e, records-none, t .size))
 
     -- and no refusal
     pub room-unrefused : {k q : ℕ} → map sizes (moreRules (Another separator)) s i ≡ refused k q → ⊥
@@ -319,35 +303,45 @@ module _ (separator : ℕ) (s : List ℕ) (i : ℕ) where
     unfolding records laid
     fills-end x = ap (fillFromAs d t slot) (all-end separator s i x) ∙ laid-append d (ruleRecords (x .rule)) [] t slot
 
--- the table t, filled by the rules of the text from p on: the table has those before the place i, and those from there on are left
+-- the table t, filled by the rules of the text from p on: so many records are counted before the place i, and the rules from there on are left. Where t has room for all, the table has those before
 pub record Filling {A : Type 0} (d : Layout A) (s : List ℕ) (p : ℕ) (t table : List A) (slot i separator : ℕ) : Type 0 where
   pub same : length table ≡ length t
   pub low : slot ≤ i * 4097
-  pub room : RoomFromIn (d .width) (length table) slot (chain moreRules noMore (Another separator) s i)
-  pub fills : fillFromAs d t 0 (rules s p) ≡ fillFromAs d table slot (chain moreRules noMore (Another separator) s i)
+  pub few : slot ≤ 4096 * 4097
+  pub counts : countFrom 0 p (rules s p) ≡ countFrom slot p (chain moreRules noMore (Another separator) s i)
+  pub room : RoomFromIn (d .width) (length t) 0 (rules s p) → RoomFromIn (d .width) (length table) slot (chain moreRules noMore (Another separator) s i)
+  pub fills : RoomFromIn (d .width) (length t) 0 (rules s p) → fillFromAs d t 0 (rules s p) ≡ fillFromAs d table slot (chain moreRules noMore (Another separator) s i)
 
 -- before the first rule
-pub filling-begin : {A : Type 0} (d : Layout A) (s : List ℕ) (p : ℕ) (t : List A) → RoomFromIn (d .width) (length t) 0 (rules s p) → Filling d s p t t 0 p 0
+pub filling-begin : {A : Type 0} (d : Layout A) (s : List ℕ) (p : ℕ) (t : List A) → Filling d s p t t 0 p 0
 unfolding rules
-filling-begin d s p t h = record { same = refl; low = omega arith; room = h; fills = refl }
+filling-begin d s p t = record { same = refl; low = omega arith; few = omega arith; counts = refl; room = λ h. h; fills = λ h. refl }
 
--- a rule more
-pub filling-more : {A : Type 0} (d : Layout A) (s : List ℕ) (p : ℕ) (t table table′ : List A) (slot i separator : ℕ) {j items k q : ℕ} → length s ≤ 4096 → Filling d s p t table slot i separator → blanks s i ≡ got tt j → FilledAs d table slot table′ (rule separator s j) →
-    Turned separator s i items (Another q) k → Filling d s p t table′ (slot + (items + 1)) k q
-filling-more {A} d s p t table table′ slot i separator {items = items} {k} {q} small f b w x =
-    let e = filled-is separator s i d table slot b w x in
-    let h = room-more separator s i (d .width) (length table) slot (f .room) x in
-    let n : length table′ ≡ length table = ap length e ∙ length-laid d (ruleRecords (x .rule)) table slot in
-    record {
-      same = n ∙ f .same;
-      low = omega (arith, f .low, x .few, x .later, small);
-      room = subst (λ (l : ℕ). RoomFromIn (d .width) l (slot + (items + 1)) (chain moreRules noMore (Another q) s k)) (sym n) h;
-      fills = f .fills ∙ fills-more separator s i d table slot (length table) x h ∙ ap (λ (y : List A). fillFromAs d y (slot + (items + 1)) (chain moreRules noMore (Another q) s k)) (sym e);
-    }
+module _ {A : Type 0} (d : Layout A) (s : List ℕ) (p : ℕ) (t table table′ : List A) (slot i separator : ℕ) {j : ℕ} (f : Filling d s p t table slot i separator) (b : blanks s i ≡ got tt j) (w : FilledWhereRoom d table slot table′ (rule separator s j)) where
+  -- where there is room, the rule is filled
+  here : {items k : ℕ} {n : Next} (x : Turned separator s i items n k) → RoomFromIn (d .width) (length t) 0 (rules s p) → table′ ≡ laid d table slot (ruleRecords (x .rule))
+  here x h = filled-is separator s i d table slot b (w (room-rule separator s i (d .width) (length table) slot (f .room h) b)) x
 
--- the last rule
-pub filling-end : {A : Type 0} (d : Layout A) (s : List ℕ) (p : ℕ) (t table table′ : List A) (slot i separator : ℕ) {j items k : ℕ} → Filling d s p t table slot i separator → blanks s i ≡ got tt j → FilledAs d table slot table′ (rule separator s j) →
-    Turned separator s i items Finished k → (length table′ ≡ length t) × (table′ ≡ fillFromAs d t 0 (rules s p))
-filling-end d s p t table table′ slot i separator f b w x =
-    let e = filled-is separator s i d table slot b w x in
-    (ap length e ∙ length-laid d (ruleRecords (x .rule)) table slot ∙ f .same, e ∙ sym (f .fills ∙ fills-end separator s i d table slot x))
+  -- a rule more
+  pub filling-more : {items k q : ℕ} → length s ≤ 4096 → length table′ ≡ length table → Turned separator s i items (Another q) k → Filling d s p t table′ (slot + (items + 1)) k q
+  filling-more {items} {k} {q} small e x =
+      let left : ℕ → Type 0 = λ l. RoomFromIn (d .width) l (slot + (items + 1)) (chain moreRules noMore (Another q) s k) in
+      record {
+        same = e ∙ f .same;
+        low = omega (arith, f .low, x .few, x .later, small);
+        few = omega (arith, f .low, x .few, x .later, x .stays, small);
+        counts = f .counts ∙ counts-more separator s i slot p x;
+        room = λ h. subst left (sym e) (room-more separator s i (d .width) (length table) slot (f .room h) x);
+        fills = λ h.
+            f .fills h
+            ∙ fills-more separator s i d table slot (length table) x (room-more separator s i (d .width) (length table) slot (f .room h) x)
+            ∙ ap (λ (y : List A). fillFromAs d y (slot + (items + 1)) (chain moreRules noMore (Another q) s k)) (sym (here x h));
+      }
+
+  -- the last rule
+  pub filling-end : {items k : ℕ} → Turned separator s i items Finished k → (Got (slot + (items + 1)) ≡ countFrom 0 p (rules s p)) × FilledFrom d t table′ (rules s p)
+  filling-end x = (sym (f .counts ∙ counts-end separator s i slot p x), λ h. here x h ∙ sym (f .fills h ∙ fills-end separator s i d table slot x))
+
+  -- a refusal
+  pub filling-refused : {k q : ℕ} → map sizes (moreRules (Another separator)) s i ≡ refused k q → (Refused k q ≡ countFrom 0 p (rules s p)) × FilledFrom d t table′ (rules s p)
+  filling-refused e = (sym (f .counts ∙ counts-refused separator s i slot p e), λ h. absurd (room-unrefused separator s i (d .width) (length table) slot (f .room h) e))

@@ -1,11 +1,11 @@
 -- What an answer of the code says, in the definitions' terms.
 use Prim.Native.Nat.{ℕ, _+_, _*_, _≤_}
 use mathlib.Core.List.{List}
-use lib.IntN.{ℤ}
+use mathlib.Core.Path.{_≡_}
 use lib.ListN.{length}
 use Rattle.names.specs.Read.{Read, got, none, refused}
 use Rattle.rules.specs.Rules.{Rule}
-use Rattle.rules.specs.Tables.{Layout, asWords, laid, Holds}
+use Rattle.rules.specs.Tables.{Layout, laid, Holds}
 use Rattle.rules.specs.declared.Next.{Next}
 use Rattle.sheet.specs.Texts.{records}
 use Rattle.sheet.specs.declared.Parted.{Parted}
@@ -28,16 +28,12 @@ countFrom n p (refused k q) = Refused k q
 abbrev pub RoomFromIn : ℕ → ℕ → ℕ → Read (List Rule × Unit {0}) → Type 0
 RoomFromIn w l k = Holds (λ r. (k + length (records (r .0))) * w ≤ l)
 
--- in a table of words of the length l
-abbrev pub RoomFrom : ℕ → ℕ → Read (List Rule × Unit {0}) → Type 0
-RoomFrom = RoomFromIn 16
-
 -- a table with the records of rules written over it from slot k on
 abbrev pub fillFromAs : {A : Type 0} → Layout A → List A → ℕ → Read (List Rule × Unit {0}) → List A
 fillFromAs d t k (got l j) = laid d t k (records (l .0))
 fillFromAs d t k none = t
 fillFromAs d t k (refused e q) = t
 
--- a table of words
-abbrev pub fillFrom : List ℤ → ℕ → Read (List Rule × Unit {0}) → List ℤ
-fillFrom = fillFromAs asWords
+-- a table t with the records of rules written over it, where it has room for them
+abbrev pub FilledFrom : {A : Type 0} → Layout A → List A → List A → Read (List Rule × Unit {0}) → Type 0
+FilledFrom d t t′ r = RoomFromIn (d .width) (length t) 0 r → t′ ≡ fillFromAs d t 0 r

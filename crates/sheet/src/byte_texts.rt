@@ -4,18 +4,19 @@ ghost use mathlib.Core.Path.{_≡_};
 ghost use lib.ListN.{length};
 ghost use Rattle.rules.specs.Tables.{asBytes};
 ghost use Rattle.sheet.specs.Texts as texts;
-ghost use Rattle.sheet.specs.Seen.{RoomFromIn, fillFromAs};
+ghost use Rattle.sheet.specs.Seen.{countFrom, FilledFrom};
+use crate::Counted;
 use crate::Parted;
 use crate::texts::parted;
 use names::Cursor;
 use rules::Next;
 use rules::fill_rule_bytes;
 
-// The rules of a text that has been counted go into a table of bytes.
-pub fn fill_rules_bytes(s: &[u8], p: usize, table: &mut [u8])
+// The rules of a text are read, and their records go into a table of bytes, by the steps of `fill_rules`.
+pub fn fill_rules_bytes(s: &[u8], p: usize, table: &mut [u8]) -> Counted
     requires { ⌜ length (now s) ≤ 4096 ⌝ }
-    requires { ⌜ RoomFromIn 64 (length (now table)) 0 (texts.rules (now s) p) ⌝ }
-    ensures { λ _. ⌜ now (table .exit) ≡ fillFromAs asBytes (now (table .entry)) 0 (texts.rules (now (s .entry)) p) ⌝ }
+    ensures counted { λ r. ⌜ r ≡ countFrom 0 p (texts.rules (now (s .entry)) p) ⌝ }
+    ensures filled { λ _. ⌜ FilledFrom asBytes (now (table .entry)) (now (table .exit)) (texts.rules (now (s .entry)) p) ⌝ }
 {
     let mut slot: usize = 0;
     let mut at = p;
@@ -23,14 +24,18 @@ pub fn fill_rules_bytes(s: &[u8], p: usize, table: &mut [u8])
     loop {
         let c = Cursor { at }.blanks(s);
         let r = parted(s, c, fill_rule_bytes(s, c, separator, table, slot));
-        let Parted::Got(items, behind, d) = r else {
-            return;
-        };
-        slot += items + 1;
-        let Next::Another(k) = behind else {
-            return;
-        };
-        separator = k;
-        at = d.at;
+        match r {
+            Parted::Got(items, behind, d) => {
+                slot += items + 1;
+                let Next::Another(k) = behind else {
+                    return Counted::Got(slot);
+                };
+                separator = k;
+                at = d.at;
+            }
+            Parted::Refused(k, q) => {
+                return Counted::Refused(k, q);
+            }
+        }
     }
 }

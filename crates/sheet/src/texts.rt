@@ -4,15 +4,15 @@ ghost use mathlib.Core.Path.{_≡_};
 ghost use lib.ListN.{length};
 ghost use Rattle.names.specs.Read.{follow, nothing};
 ghost use Rattle.rules.specs.Seen.{seenRule};
+ghost use Rattle.rules.specs.Tables.{asWords};
 ghost use Rattle.sheet.specs.Texts as texts;
-ghost use Rattle.sheet.specs.Seen.{seenParted, countFrom, RoomFrom, fillFrom};
+ghost use Rattle.sheet.specs.Seen.{seenParted, countFrom, FilledFrom};
 use crate::Counted;
 use crate::Parted;
 use names::Cursor;
 use rules::Next;
 use rules::NextRead;
 use rules::RuleRead;
-use rules::count_rule;
 use rules::fill_rule;
 use rules::next_rule;
 
@@ -32,22 +32,23 @@ pub fn parted(s: &[u8], c: Cursor, r: RuleRead) -> Parted
     }
 }
 
-// How many records the rules of the text from place p on have, or their refusal.
-pub fn count_rules(s: &[u8], p: usize) -> Counted
+// The rules of the text from place p on are read: how many records they have, or their refusal. The records go into a table of words, where it has room for them.
+pub fn fill_rules(s: &[u8], p: usize, table: &mut [i32]) -> Counted
     requires { ⌜ length (now s) ≤ 4096 ⌝ }
-    ensures { λ r. ⌜ r ≡ countFrom 0 p (texts.rules (now (s .entry)) p) ⌝ }
+    ensures counted { λ r. ⌜ r ≡ countFrom 0 p (texts.rules (now (s .entry)) p) ⌝ }
+    ensures filled { λ _. ⌜ FilledFrom asWords (now (table .entry)) (now (table .exit)) (texts.rules (now (s .entry)) p) ⌝ }
 {
-    let mut n: usize = 0;
+    let mut slot: usize = 0;
     let mut at = p;
     let mut separator: u8 = 0;
     loop {
         let c = Cursor { at }.blanks(s);
-        let r = parted(s, c, count_rule(s, c, separator));
+        let r = parted(s, c, fill_rule(s, c, separator, table, slot));
         match r {
             Parted::Got(items, behind, d) => {
-                n += items + 1;
+                slot += items + 1;
                 let Next::Another(k) = behind else {
-                    return Counted::Got(n);
+                    return Counted::Got(slot);
                 };
                 separator = k;
                 at = d.at;
@@ -56,29 +57,5 @@ pub fn count_rules(s: &[u8], p: usize) -> Counted
                 return Counted::Refused(k, q);
             }
         }
-    }
-}
-
-// The rules of a text that has been counted go into a table of words.
-pub fn fill_rules(s: &[u8], p: usize, table: &mut [i32])
-    requires { ⌜ length (now s) ≤ 4096 ⌝ }
-    requires { ⌜ RoomFrom (length (now table)) 0 (texts.rules (now s) p) ⌝ }
-    ensures { λ _. ⌜ now (table .exit) ≡ fillFrom (now (table .entry)) 0 (texts.rules (now (s .entry)) p) ⌝ }
-{
-    let mut slot: usize = 0;
-    let mut at = p;
-    let mut separator: u8 = 0;
-    loop {
-        let c = Cursor { at }.blanks(s);
-        let r = parted(s, c, fill_rule(s, c, separator, table, slot));
-        let Parted::Got(items, behind, d) = r else {
-            return;
-        };
-        slot += items + 1;
-        let Next::Another(k) = behind else {
-            return;
-        };
-        separator = k;
-        at = d.at;
     }
 }
