@@ -9,6 +9,7 @@ pub mod Longest
 pub mod Facts
 pub mod Laws
 pub mod Digits
+pub mod Folds
 pub mod Rows
 pub mod Search
 pub mod Letters

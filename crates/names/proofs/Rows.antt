@@ -9,8 +9,9 @@ use lib.Dec.{eqb, leb}
 use lib.ListN.{length, getD, drop, replicate, List·getD-append, length-map, getD-replicate}
 use lib.Seq.{getD-append-add}
 use Rattle.names.specs.Tests.{if_then_else_, within}
-use Rattle.names.specs.Names.{Row, names, lower, letter, spelledSo}
-use Rattle.names.specs.Table.{keyOf, beginning, told, packed, rowOf, padded, rowsOf}
+use Rattle.names.specs.Names.{Row, names, spelledSo}
+use Rattle.names.specs.Table.{fold, keyOf, beginning, told, packed, rowOf, padded, rowsOf}
+use Rattle.names.proofs.Laws.{within-range}
 
 -- ---- how many names begin alike
 
@@ -39,7 +40,7 @@ all-keyed [] = true
 all-keyed (r ∷ rs) = member (keyOf (r .0)) keys && all-keyed rs
 
 names-keyed : all-keyed names ≡ true
-unfolding all-keyed member keyOf names lower within
+unfolding all-keyed member keyOf names fold
 names-keyed = refl
 
 -- none of them begins otherwise
@@ -68,7 +69,7 @@ all-few [] = true
 all-few (x ∷ xs) = leb (length (beginning x names)) 3 && all-few xs
 
 keys-few : all-few keys ≡ true
-unfolding all-few beginning keyOf names lower within
+unfolding all-few beginning keyOf names fold
 keys-few = refl
 
 few-of : (k : ℕ) (xs : List ℕ) → member k xs ≡ true → all-few xs ≡ true → length (beginning k names) ≤ 3
@@ -93,32 +94,49 @@ few k = go (member k keys) refl
 
 -- ---- what holds of each name
 
--- each letter is a byte and not 0
-pub plain : List ℕ → Bool
-plain [] = true
-plain (x ∷ xs) = (leb 1 x && leb x 255) && plain xs
+-- a letter of a name of this kind: a byte and not 0, and a small letter where the name takes any case
+pub record Letter (kind x : ℕ) : Type 0 where
+  pub some : 1 ≤ x
+  pub byte : x ≤ 255
+  pub small : spelledSo kind ≡ false → (97 ≤ x) × (x ≤ 122)
 
--- two letters at least, of which the first is none below the letters, and which stand as they are told
-unfoldable pub opens : ℕ → List ℕ → Bool
-opens kind (x ∷ y ∷ xs) = leb 65 (lower x) && (if spelledSo kind then true else eqb (lower x) x && eqb (lower y) y)
-opens kind (x ∷ []) = false
-opens kind [] = false
+is-letter : ℕ → ℕ → Bool
+is-letter kind x = if spelledSo kind then within 1 255 x else within 97 122 x
+
+letter-is : (kind x : ℕ) → is-letter kind x ≡ true → Letter kind x
+unfolding is-letter
+letter-is kind x e = go (spelledSo kind) refl e
+  where
+    go : (t : Bool) → spelledSo kind ≡ t → (if t then within 1 255 x else within 97 122 x) ≡ true → Letter kind x
+    go true q h = let r = within-range 1 255 x h in record { some = r .0; byte = r .1; small = λ n. absurd (true≢false (sym q ∙ n)) }
+    go false q h = let r = within-range 97 122 x h in record { some = omega arith; byte = omega arith; small = λ n. r }
+
+-- each letter is one of a name of this kind
+pub plain : ℕ → List ℕ → Bool
+plain kind [] = true
+plain kind (x ∷ xs) = is-letter kind x && plain kind xs
+
+-- two letters at least, of which the first is none below the letters
+unfoldable pub opens : List ℕ → Bool
+opens (x ∷ y ∷ xs) = leb 97 (fold x)
+opens (x ∷ []) = false
+opens [] = false
 
 -- a kind, and a value that fits beside it in a byte
 good : Row → Bool
-good r = opens (r .1 .0) (r .0) && plain (r .0) && leb 1 (r .1 .0) && leb (r .1 .0) 15 && leb (r .1 .1) 12
+good r = opens (r .0) && plain (r .1 .0) (r .0) && leb 1 (r .1 .0) && leb (r .1 .0) 15 && leb (r .1 .1) 12
 
 pub all-good : List Row → Bool
 all-good [] = true
 all-good (r ∷ rs) = good r && all-good rs
 
 pub names-good : all-good names ≡ true
-unfolding all-good good opens plain names lower within spelledSo
+unfolding all-good good opens plain is-letter names fold within spelledSo
 names-good = refl
 
 pub record Good (r : Row) : Type 0 where
-  pub begun : opens (r .1 .0) (r .0) ≡ true
-  pub letters : plain (r .0) ≡ true
+  pub begun : opens (r .0) ≡ true
+  pub letters : plain (r .1 .0) (r .0) ≡ true
   pub kind : 1 ≤ r .1 .0
   pub kinds : r .1 .0 ≤ 15
   pub value : r .1 .1 ≤ 12
@@ -134,7 +152,7 @@ all-five false b c d e q = absurd (true≢false (sym q))
 good-is : (r : Row) → good r ≡ true → Good r
 unfolding good
 good-is r e =
-    let h = all-five (opens (r .1 .0) (r .0)) (plain (r .0)) (leb 1 (r .1 .0)) (leb (r .1 .0) 15) (leb (r .1 .1) 12) e in
+    let h = all-five (opens (r .0)) (plain (r .1 .0) (r .0)) (leb 1 (r .1 .0)) (leb (r .1 .0) 15) (leb (r .1 .1) 12) e in
     record { begun = h .0; letters = h .1; kind = leb-true _ _ (h .2); kinds = leb-true _ _ (h .3); value = leb-true _ _ (h .4) }
 
 -- the first and the others
@@ -142,14 +160,12 @@ pub good-split : (r : Row) (rs : List Row) → all-good (r ∷ rs) ≡ true → 
 unfolding all-good
 good-split r rs e = let h = and-eq-true-iff (good r) (all-good rs) .0 e in (good-is r (h .0), h .1)
 
--- a letter of a name is a byte and not 0
-pub letter-some : (xs : List ℕ) → plain xs ≡ true → (j : ℕ) → j < length xs → (1 ≤ getD xs j 0) × (getD xs j 0 ≤ 255)
+-- so with letter j of a name
+pub letter-some : (kind : ℕ) (xs : List ℕ) → plain kind xs ≡ true → (j : ℕ) → j < length xs → Letter kind (getD xs j 0)
 unfolding plain
-letter-some [] e j h = absurd (omega arith)
-letter-some (x ∷ xs) e zero h =
-    let p = and-eq-true-iff (leb 1 x) (leb x 255) .0 (and-eq-true-iff (leb 1 x && leb x 255) (plain xs) .0 e .0) in
-    (leb-true 1 x (p .0), leb-true x 255 (p .1))
-letter-some (x ∷ xs) e (suc j) h = letter-some xs (and-eq-true-iff (leb 1 x && leb x 255) (plain xs) .0 e .1) j (omega arith)
+letter-some kind [] e j h = absurd (omega arith)
+letter-some kind (x ∷ xs) e zero h = letter-is kind x (and-eq-true-iff (is-letter kind x) (plain kind xs) .0 e .0)
+letter-some kind (x ∷ xs) e (suc j) h = letter-some kind xs (and-eq-true-iff (is-letter kind x) (plain kind xs) .0 e .1) j (omega arith)
 
 -- no name
 abbrev pub nobody : Row

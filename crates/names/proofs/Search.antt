@@ -1,57 +1,50 @@
 -- The search for the longest name: only names with the first two letters that stand there are tried, letter by letter.
 use Prim.Native.Nat.{ℕ, suc, _+_, _*_, _/_, _%_, _≤_, _<_}
-use mathlib.Core.Bool.{Bool, true, false, _&&_, true≢false, and-eq-true-iff}
+use mathlib.Core.Bool.{Bool, true, false, true≢false}
 use mathlib.Core.List.{List, [], _∷_}
+use mathlib.Core.Logic.{_↔_}
 use mathlib.Core.Path.{_≡_, refl, sym, ap, _∙_}
 use native.Mathlib.Omega.{arith}
 use native.Mathlib.Nat.{add-zero, add-assoc}
 use native.Mathlib.Numerals.{add-one}
 use native.Mathlib.Decide.{decLt}
 use borrow.Author.Tests.{eq-eqb, ne-eqb, eqb-true, eqb-false, leb-true}
-use lib.Dec.{eqb, leb}
-use lib.ListN.{length, getD, drop, drop-of-length-le, List·getD-eq-default}
+use lib.Dec.{eqb}
+use lib.ListN.{length, getD, drop, drop-of-length-le}
 use lib.Seq.{drop-cons}
 use Rattle.names.specs.Tests.{if_then_else_, within}
 use Rattle.names.specs.Read.{Read, got, none, refused, Reader, follow, nothing, pure, one}
 use Rattle.names.specs.Texts.{allOf}
 use Rattle.names.specs.Names.{Row, Word, names, spelledSo, lower, letter, firstOf, word}
-use Rattle.names.specs.Table.{key, keyOf, beginning, told, packed, rowOf, padded}
-use Rattle.names.proofs.Laws.{one-got, one-other, one-past, inside, within-true, within-below, within-above}
-use Rattle.names.proofs.Rows.{nobody, plain, opens, all-good, names-good, Good, good-split, Found, name-found, row-at, row-end, letter-some, digits}
+use Rattle.names.specs.Table.{fold, compared, key, keyOf, beginning, told, packed, rowOf, padded}
+use Rattle.names.proofs.Laws.{one-got, one-other, one-past, inside}
+use Rattle.names.proofs.Folds.{fold-is, fold-small, tells}
+use Rattle.names.proofs.Rows.{nobody, Letter, plain, opens, all-good, names-good, Good, good-split, Found, name-found, row-at, row-end, letter-some, digits}
 
--- a small letter's small letter is itself
-lower-twice : (b : ℕ) → lower (lower b) ≡ lower b
-unfolding lower
-lower-twice b = go (decLt b 65) (decLt 90 b)
+-- the comparison tells a letter of a name as the definition does
+alike : (kind b x : ℕ) → Letter kind x → (compared kind b ≡ x) ↔ (letter kind b ≡ x)
+unfolding compared letter
+alike kind b x l = go (spelledSo kind) refl
   where
-    same : within 65 90 b ≡ false → lower (lower b) ≡ lower b
-    same e = rw (e, e)
+    go : (t : Bool) → spelledSo kind ≡ t → ((if t then b else fold b) ≡ x) ↔ ((if t then b else lower b) ≡ x)
+    go true q = (λ e. e, λ e. e)
+    go false q = tells b x (l .small q .0) (l .small q .1)
 
-    go : Dec (b < 65) → Dec (90 < b) → lower (lower b) ≡ lower b
-    go (yes p) q = same (within-below 65 90 b p)
-    go (no p) (yes q) = same (within-above 65 90 b (omega arith) q)
-    go (no p) (no q) = rw (within-true 65 90 b (omega arith) (omega arith), within-above 65 90 (b + 32) (omega arith) (omega arith))
-
--- a byte below the letters is its own small letter
-lower-low : (b : ℕ) → b < 65 → lower b ≡ b
-unfolding lower
-lower-low b h = rw (within-below 65 90 b h)
-
--- a letter that counts as x has the small letter of x
-letter-lower : (kind b x : ℕ) → letter kind b ≡ x → lower x ≡ lower b
-unfolding letter
-letter-lower kind b x e = go (spelledSo kind) e
+-- a byte that counts as the letter x folds as x does
+letter-fold : (kind b x : ℕ) → Letter kind x → letter kind b ≡ x → fold x ≡ fold b
+unfolding compared
+letter-fold kind b x l e = go (spelledSo kind) refl (alike kind b x l .1 e)
   where
-    go : (t : Bool) → (if t then b else lower b) ≡ x → lower x ≡ lower b
-    go true q = ap lower (sym q)
-    go false q = ap lower (sym q) ∙ lower-twice b
+    go : (t : Bool) → spelledSo kind ≡ t → (if t then b else fold b) ≡ x → fold x ≡ fold b
+    go true q h = ap fold (sym h)
+    go false q h = fold-small x (l .small q .0) (l .small q .1) ∙ sym h
 
 -- where another letter stands, a name does not
-other-first : (s : List ℕ) (i kind x : ℕ) → eqb (lower x) (lower (getD s i 0)) ≡ false → one (λ b. eqb (letter kind b) x) s i ≡ none
-other-first s i kind x e = go (decLt i (length s))
+other-first : (s : List ℕ) (i kind x : ℕ) → Letter kind x → eqb (fold x) (fold (getD s i 0)) ≡ false → one (λ b. eqb (letter kind b) x) s i ≡ none
+other-first s i kind x l e = go (decLt i (length s))
   where
     go : Dec (i < length s) → one (λ b. eqb (letter kind b) x) s i ≡ none
-    go (yes h) = one-other _ s i h (ne-eqb _ x (λ q. eqb-false _ _ e (letter-lower kind (getD s i 0) x q)))
+    go (yes h) = one-other _ s i h (ne-eqb _ x (λ q. eqb-false _ _ e (letter-fold kind (getD s i 0) x l q)))
     go (no h) = one-past _ s i (omega arith)
 
 module _ (s : List ℕ) (i : ℕ) where
@@ -75,22 +68,22 @@ module _ (s : List ℕ) (i : ℕ) where
 
   -- the two letters that stand here
   abbrev pub here : ℕ
-  here = key (lower (getD s i 0)) (lower (getD s (i + 1) 0))
+  here = key (getD s i 0) (getD s (i + 1) 0)
 
   -- letters that do not begin with the two that stand here
-  other-letters : (kind : ℕ) (xs : List ℕ) → opens kind xs ≡ true → eqb (keyOf xs) here ≡ false → allOf (letter kind) xs s i ≡ none
+  other-letters : (kind : ℕ) (xs : List ℕ) → opens xs ≡ true → plain kind xs ≡ true → eqb (keyOf xs) here ≡ false → allOf (letter kind) xs s i ≡ none
   unfolding allOf opens keyOf
-  other-letters kind [] h e = absurd (true≢false (sym h))
-  other-letters kind (x ∷ []) h e = absurd (true≢false (sym h))
-  other-letters kind (x ∷ y ∷ xs) h e = go (eqb (lower x) (lower (getD s i 0))) refl (eqb (lower y) (lower (getD s (i + 1) 0))) refl
+  other-letters kind [] h a e = absurd (true≢false (sym h))
+  other-letters kind (x ∷ []) h a e = absurd (true≢false (sym h))
+  other-letters kind (x ∷ y ∷ xs) h a e = go (eqb (fold x) (fold (getD s i 0))) refl (eqb (fold y) (fold (getD s (i + 1) 0))) refl
     where
-      later : eqb (lower y) (lower (getD s (i + 1) 0)) ≡ false → allOf (letter kind) (y ∷ xs) s (i + 1) ≡ none
-      later q = rw (other-first s (i + 1) kind y q)
+      later : eqb (fold y) (fold (getD s (i + 1) 0)) ≡ false → allOf (letter kind) (y ∷ xs) s (i + 1) ≡ none
+      later q = rw (other-first s (i + 1) kind y (letter-some kind (x ∷ y ∷ xs) a 1 (omega arith)) q)
 
-      go : (t : Bool) → eqb (lower x) (lower (getD s i 0)) ≡ t → (u : Bool) → eqb (lower y) (lower (getD s (i + 1) 0)) ≡ u → allOf (letter kind) (x ∷ y ∷ xs) s i ≡ none
-      go false p u q = rw (other-first s i kind x p)
+      go : (t : Bool) → eqb (fold x) (fold (getD s i 0)) ≡ t → (u : Bool) → eqb (fold y) (fold (getD s (i + 1) 0)) ≡ u → allOf (letter kind) (x ∷ y ∷ xs) s i ≡ none
+      go false p u q = rw (other-first s i kind x (letter-some kind (x ∷ y ∷ xs) a 0 (omega arith)) p)
       go true p false q = second kind x (allOf (letter kind) (y ∷ xs)) (later q)
-      go true p true q = absurd (eqb-false (key (lower x) (lower y)) here e (omega (arith, eqb-true (lower x) (lower (getD s i 0)) p, eqb-true (lower y) (lower (getD s (i + 1) 0)) q)))
+      go true p true q = absurd (eqb-false (key x y) here e (omega (arith, eqb-true (fold x) (fold (getD s i 0)) p, eqb-true (fold y) (fold (getD s (i + 1) 0)) q)))
 
   -- of names only those that begin with the letters that stand here count
   only-beginning : (rs : List Row) → all-good rs ≡ true → firstOf rs s i ≡ firstOf (beginning here rs) s i
@@ -101,23 +94,21 @@ module _ (s : List ℕ) (i : ℕ) where
       go : (t : Bool) → eqb (keyOf (r .0)) here ≡ t → firstOf rs s i ≡ firstOf (beginning here rs) s i →
           firstOf (r ∷ rs) s i ≡ firstOf (if t then r ∷ beginning here rs else beginning here rs) s i
       go true q h = else-same (allOf (letter (r .1 .0)) (r .0) s i) _ _ _ h
-      go false q h = rw (other-letters (r .1 .0) (r .0) (good-split r rs e .0 .begun) q) h
+      go false q h = let g = good-split r rs e .0 in rw (other-letters (r .1 .0) (r .0) (g .begun) (g .letters) q) h
 
   -- no name begins with a byte below the letters
   module _ (h : getD s i 0 < 65) where
-    below-letters : (kind : ℕ) (xs : List ℕ) → opens kind xs ≡ true → allOf (letter kind) xs s i ≡ none
+    below-letters : (kind : ℕ) (xs : List ℕ) → opens xs ≡ true → plain kind xs ≡ true → allOf (letter kind) xs s i ≡ none
     unfolding allOf opens
-    below-letters kind [] e = absurd (true≢false (sym e))
-    below-letters kind (x ∷ []) e = absurd (true≢false (sym e))
-    below-letters kind (x ∷ y ∷ xs) e =
-        let f = leb-true 65 (lower x) (and-eq-true-iff (leb 65 (lower x)) (if spelledSo kind then true else eqb (lower x) x && eqb (lower y) y) .0 e .0) in
-        let l = lower-low (getD s i 0) h in
-        rw (other-first s i kind x (ne-eqb (lower x) (lower (getD s i 0)) (λ q. omega (arith, f, l))))
+    below-letters kind [] e a = absurd (true≢false (sym e))
+    below-letters kind (x ∷ []) e a = absurd (true≢false (sym e))
+    below-letters kind (x ∷ y ∷ xs) e a =
+        rw (other-first s i kind x (letter-some kind (x ∷ y ∷ xs) a 0 (omega arith)) (ne-eqb (fold x) (fold (getD s i 0)) (λ q. omega (arith, leb-true 97 (fold x) e, fold-is (getD s i 0)))))
 
     none-first : (rs : List Row) → all-good rs ≡ true → firstOf rs s i ≡ none
     unfolding firstOf
     none-first [] e = refl
-    none-first (r ∷ rs) e = rw (below-letters (r .1 .0) (r .0) (good-split r rs e .0 .begun)) (none-first rs (good-split r rs e .1))
+    none-first (r ∷ rs) e = let g = good-split r rs e .0 in rw (below-letters (r .1 .0) (r .0) (g .begun) (g .letters)) (none-first rs (good-split r rs e .1))
 
     pub no-word : word s i ≡ none
     unfolding word
@@ -194,29 +185,31 @@ Stood s i k j =
     let r = getD (nearby s i) k nobody in
     (i + j ≤ length s) × (word s i ≡ follow s i (allOf (letter (r .1 .0)) (drop j (r .0)) s (i + j)) (λ _. pure (r .1)) (firstOf (drop (k + 1) (nearby s i))))
 
--- so, where those letters are this number
-abbrev pub Within : List ℕ → ℕ → ℕ → ℕ → ℕ → Type 0
-Within s i k j rest = Stood s i k j × (rest ≡ packed (drop j (getD (nearby s i) k nobody .0)))
+-- so, where its letters that stand here end at the place e, and the others are the number rest
+pub record Within (s : List ℕ) (i k e rest : ℕ) : Type 0 where
+  pub j : ℕ
+  pub end : e ≡ i + j
+  pub stood : Stood s i k j
+  pub others : rest ≡ packed (drop j (getD (nearby s i) k nobody .0))
 
 -- the first two letters of a name that takes any case, where letters stand that tell them
-two-stand : (s : List ℕ) (i kind : ℕ) (xs : List ℕ) → spelledSo kind ≡ false → opens kind xs ≡ true → keyOf xs ≡ here s i → plain xs ≡ true → lower (getD s (i + 1) 0) ≤ 255 →
-    (2 ≤ length xs) × (letter kind (getD s i 0) ≡ getD xs 0 0) × (letter kind (getD s (i + 1) 0) ≡ getD xs 1 0)
-unfolding opens keyOf letter
+two-stand : (s : List ℕ) (i kind : ℕ) (xs : List ℕ) → spelledSo kind ≡ false → opens xs ≡ true → keyOf xs ≡ here s i → plain kind xs ≡ true → getD s (i + 1) 0 ≤ 255 →
+    (2 ≤ length xs) × (compared kind (getD s i 0) ≡ getD xs 0 0) × (compared kind (getD s (i + 1) 0) ≡ getD xs 1 0)
+unfolding opens keyOf compared
 two-stand s i kind [] n o e a b = absurd (true≢false (sym o))
 two-stand s i kind (x ∷ []) n o e a b = absurd (true≢false (sym o))
 two-stand s i kind (x ∷ y ∷ xs) n o e a b =
-    let same = and-eq-true-iff (eqb (lower x) x) (eqb (lower y) y) .0 (rw (n) at (and-eq-true-iff (leb 65 (lower x)) (if spelledSo kind then true else eqb (lower x) x && eqb (lower y) y) .0 o .1)) in
-    let p = eqb-true (lower x) x (same .0) in
-    let q = eqb-true (lower y) y (same .1) in
-    let y-small = letter-some (x ∷ y ∷ xs) a 1 (omega arith) .1 in
-    (omega arith, rw (n) (omega (arith, p, q, y-small)), rw (n) (omega (arith, p, q, y-small)))
+    let p = letter-some kind (x ∷ y ∷ xs) a 0 (omega arith) .small n in
+    let q = letter-some kind (x ∷ y ∷ xs) a 1 (omega arith) .small n in
+    let both : (fold (getD s i 0) ≡ x) × (fold (getD s (i + 1) 0) ≡ y) = omega (arith, fold-small x (p .0) (p .1), fold-small y (q .0) (q .1), fold-is (getD s (i + 1) 0)) in
+    (omega arith, rw (n) (both .0), rw (n) (both .1))
 
 -- the table t of the code, where it tries row k
 pub record Tries (s : List ℕ) (i k : ℕ) (t : List ℕ) : Type 0 where
   pub is : t ≡ padded (nearby s i)
   pub few : length (nearby s i) ≤ 3
   pub start : i < length s
-  pub second : lower (getD s (i + 1) 0) ≤ 255
+  pub second : getD s (i + 1) 0 ≤ 255
   pub left : Left s i k
 
 module _ {s : List ℕ} {i k : ℕ} {t : List ℕ} (w : Tries s i k t) where
@@ -261,11 +254,17 @@ module _ {s : List ℕ} {i k : ℕ} {t : List ℕ} (w : Tries s i k t) where
     pub kind-is : getD t k 0 % 256 / 16 ≡ r .1 .0
     kind-is = ap (λ (x : Word). x .0) mark-is
 
+    -- letter j of it
+    letter-of : (j : ℕ) → j < length (r .0) → Letter (r .1 .0) (getD (r .0) j 0)
+    letter-of = letter-some _ _ (name-is .letters)
+
     -- one letter more stands here
-    further : (j : ℕ) → j < length (r .0) → Stood s i k j → letter (r .1 .0) (getD s (i + j) 0) ≡ getD (r .0) j 0 → Stood s i k (j + 1)
+    further : (j : ℕ) → j < length (r .0) → Stood s i k j → compared (r .1 .0) (getD s (i + j) 0) ≡ getD (r .0) j 0 → Stood s i k (j + 1)
     further j l p e =
-        let n = inside s (i + j) (λ z. omega (arith, letter-some _ (name-is .letters) j l, sym e ∙ ap (letter (r .1 .0)) z ∙ letter-zero (r .1 .0))) in
-        (omega arith, p .1 ∙ rw (next-letter (letter (r .1 .0)) (r .0) s i j l n e))
+        let x = letter-of j l in
+        let h = alike _ _ _ x .0 e in
+        let n = inside s (i + j) (λ z. omega (arith, x .some, sym h ∙ ap (letter (r .1 .0)) z ∙ letter-zero (r .1 .0))) in
+        (omega arith, p .1 ∙ rw (next-letter (letter (r .1 .0)) (r .0) s i j l n h))
 
     -- none of its letters so far
     begun : Stood s i k 0
@@ -284,38 +283,41 @@ module _ {s : List ℕ} {i k : ℕ} {t : List ℕ} (w : Tries s i k t) where
             further 1 (omega (arith, h .0)) (further 0 (omega (arith, h .0)) begun (rw (add-zero i) (h .1))) (h .2)
 
     -- its other letters are tried
-    pub enter : Within s i k (told (getD t k 0 % 256 / 16)) (getD t k 0 / 256)
-    enter = rw (kind-is) (told-stand, parts .1)
+    pub enter : Within s i k (i + told (getD t k 0 % 256 / 16)) (getD t k 0 / 256)
+    enter = rw (kind-is) (record { j = _; end = refl; stood = told-stand; others = parts .1 })
 
-    module _ (j rest : ℕ) (p : Within s i k j rest) where
+    module _ (e rest : ℕ) (p : Within s i k e rest) where
       -- all its letters stand here
-      pub ended : rest ≡ 0 → word s i ≡ got (getD t k 0 % 256 / 16, getD t k 0 % 256 % 16) (i + j)
+      pub ended : rest ≡ 0 → word s i ≡ got (getD t k 0 % 256 / 16, getD t k 0 % 256 % 16) e
       unfolding allOf packed
-      ended e = p .0 .1 ∙ rw (drop-of-length-le (r .0) (go (decLt j (length (r .0)))), mark-is)
+      ended z = p .stood .1 ∙ rw (drop-of-length-le (r .0) (go (decLt (p .j) (length (r .0)))), mark-is, p .end)
         where
-          go : Dec (j < length (r .0)) → length (r .0) ≤ j
-          go (yes l) = absurd (omega (arith, p .1 ∙ ap packed (drop-cons (r .0) j 0 l), letter-some _ (name-is .letters) j l))
+          go : Dec (p .j < length (r .0)) → length (r .0) ≤ p .j
+          go (yes l) = absurd (omega (arith, p .others ∙ ap packed (drop-cons (r .0) (p .j) 0 l), letter-of (p .j) l .some))
           go (no l) = omega arith
 
       -- there is a letter more
       module _ (n : rest ≡ 0 → ⊥) where
-        more : j < length (r .0)
+        more : p .j < length (r .0)
         unfolding packed
-        more = go (decLt j (length (r .0)))
+        more = go (decLt (p .j) (length (r .0)))
           where
-            go : Dec (j < length (r .0)) → j < length (r .0)
+            go : Dec (p .j < length (r .0)) → p .j < length (r .0)
             go (yes l) = l
-            go (no l) = absurd (n (p .1 ∙ ap packed (drop-of-length-le (r .0) {i = j} (omega arith))))
+            go (no l) = absurd (n (p .others ∙ ap packed (drop-of-length-le (r .0) {i = p .j} (omega arith))))
 
-        next : (rest % 256 ≡ getD (r .0) j 0) × (rest / 256 ≡ packed (drop (j + 1) (r .0)))
+        next : (rest % 256 ≡ getD (r .0) (p .j) 0) × (rest / 256 ≡ packed (drop (p .j + 1) (r .0)))
         unfolding packed
-        next = rw (p .1, drop-cons (r .0) j 0 more, add-one j) (digits _ _ (letter-some _ (name-is .letters) j more .1))
+        next = rw (p .others, drop-cons (r .0) (p .j) 0 more, add-one (p .j)) (digits _ _ (letter-of (p .j) more .byte))
+
+        -- what is compared
+        read : compared (getD t k 0 % 256 / 16) (getD s e 0) ≡ compared (r .1 .0) (getD s (i + p .j) 0)
+        read = rw (kind-is, p .end)
 
         -- it stands here
-        pub same : letter (getD t k 0 % 256 / 16) (getD s (i + j) 0) ≡ rest % 256 → Within s i k (j + 1) (rest / 256)
-        same e = (further j more (p .0) (ap (λ (x : ℕ). letter x (getD s (i + j) 0)) (sym kind-is) ∙ e ∙ next .0), next .1)
+        pub same : compared (getD t k 0 % 256 / 16) (getD s e 0) ≡ rest % 256 → Within s i k (e + 1) (rest / 256)
+        same h = record { j = p .j + 1; end = omega (arith, p .end); stood = further (p .j) more (p .stood) (sym read ∙ h ∙ next .0); others = next .1 }
 
         -- another stands here: the next name
-        pub other : (letter (getD t k 0 % 256 / 16) (getD s (i + j) 0) ≡ rest % 256 → ⊥) → Left s i (k + 1)
-        other e =
-            (omega (arith, near), p .0 .1 ∙ rw (other-letter (letter (r .1 .0)) (r .0) s i j more (λ f. e (ap (λ (x : ℕ). letter x (getD s (i + j) 0)) kind-is ∙ f ∙ sym (next .0)))))
+        pub other : (compared (getD t k 0 % 256 / 16) (getD s e 0) ≡ rest % 256 → ⊥) → Left s i (k + 1)
+        other h = (omega (arith, near), p .stood .1 ∙ rw (other-letter (letter (r .1 .0)) (r .0) s i (p .j) more (λ f. h (read ∙ alike _ _ _ (letter-of (p .j) more) .1 f ∙ sym (next .0)))))

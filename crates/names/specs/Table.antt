@@ -1,18 +1,27 @@
 -- The names as the code lays them out, by their first two letters.
 use Prim.Native.Nat.{ℕ, _+_, _-_, _*_}
 use mathlib.Core.List.{List, [], _∷_, _++_, map}
+use lib.Bits.{bitOr}
 use lib.Dec.{eqb}
 use lib.ListN.{length, replicate, drop}
 use Rattle.names.specs.Tests.{if_then_else_}
-use Rattle.names.specs.Names.{Row, names, lower, spelledSo}
+use Rattle.names.specs.Names.{Row, names, spelledSo}
 
--- two letters as one number
+-- a capital as its small letter, and no other byte as another letter
+unfoldable pub fold : ℕ → ℕ
+fold b = bitOr b 32
+
+-- as what a byte of the text is compared with a letter of a name of this kind
+unfoldable pub compared : ℕ → ℕ → ℕ
+compared kind b = if spelledSo kind then b else fold b
+
+-- two letters, folded, as one number
 abbrev pub key : ℕ → ℕ → ℕ
-key b c = b * 256 + c
+key b c = fold b * 256 + fold c
 
--- the first two of a name's letters, a capital as its small letter
+-- the first two of a name's letters
 unfoldable pub keyOf : List ℕ → ℕ
-keyOf (x ∷ y ∷ xs) = key (lower x) (lower y)
+keyOf (x ∷ y ∷ xs) = key x y
 keyOf (x ∷ []) = 0
 keyOf [] = 0
 

@@ -6,7 +6,6 @@ ghost use Rattle.names.specs.Seen.{Reads, seenWord};
 use crate::Cursor;
 use crate::Num;
 use crate::Word;
-use crate::tests::within;
 
 // The kinds of names.
 pub const WEEKDAY: u8 = 1;
@@ -25,11 +24,11 @@ pub const WEEK: u8 = 7;
 
 pub const DAY: u8 = 8;
 
-// Two letters as one number.
+// Two letters as one number. The bit 32 makes a capital its small letter, and a letter of no other byte: shorter work than a test.
 fn key(b: u8, c: u8) -> u16
     ensures { λ r. ⌜ r ≡ table.key b c ⌝ }
 {
-    b as u16 * 256 + c as u16
+    (b as u16 * 256 + c as u16) | 0x2020
 }
 
 // A row is a number in base 256: 16 times a name's kind and which of its kind it is, then its letters, the last of them foremost.
@@ -76,20 +75,11 @@ fn told(kind: u8) -> usize
     if HOLIDAY <= kind { 0 } else { 2 }
 }
 
-// The small letter of a capital.
-fn lower(b: u8) -> u8
-    ensures { λ r. ⌜ r ≡ names.lower b ⌝ }
-{
-    // a sum, which is shorter work than a choice of one of two letters
-    let up: u8 = if within(65, 90, b as u32) { 32 } else { 0 };
-    b + up
-}
-
-// As what a letter of the text counts for a name of this kind: `PH`, `SH`, `week`, `day`, `days` are spelled so.
+// As what a byte of the text is compared with a letter of a name of this kind: `PH`, `SH`, `week`, `day`, `days` are spelled so.
 fn letter(kind: u8, b: u8) -> u8
-    ensures { λ r. ⌜ r ≡ names.letter kind b ⌝ }
+    ensures { λ r. ⌜ r ≡ table.compared kind b ⌝ }
 {
-    if HOLIDAY <= kind { b } else { lower(b) }
+    if HOLIDAY <= kind { b } else { b | 32 }
 }
 
 impl Cursor {
@@ -103,7 +93,7 @@ impl Cursor {
         if first < 65 {
             return Word::Missing;
         }
-        let table = rows(key(lower(first), lower(Cursor { at: at + 1 }.byte(s))));
+        let table = rows(key(first, Cursor { at: at + 1 }.byte(s)));
         let mut k: usize = 0;
         'names: loop {
             let row = table[k];
@@ -113,16 +103,17 @@ impl Cursor {
             let mark = (row % 256) as u8;
             let kind = mark / 16;
             let mut rest = row / 256;
-            let mut j = told(kind);
+            // Behind the letters that stand here: a place, since a sum for each letter is more work.
+            let mut end = at + told(kind);
             loop {
                 if rest == 0 {
-                    break 'names Word::Got(kind, mark % 16, Cursor { at: at + j });
+                    break 'names Word::Got(kind, mark % 16, Cursor { at: end });
                 }
-                if letter(kind, Cursor { at: at + j }.byte(s)) != (rest % 256) as u8 {
+                if letter(kind, Cursor { at: end }.byte(s)) != (rest % 256) as u8 {
                     break;
                 }
                 rest = rest / 256;
-                j += 1;
+                end += 1;
             }
             k += 1;
         }

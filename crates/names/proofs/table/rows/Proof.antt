@@ -1,13 +1,12 @@
 -- `names::table::rows` meets its contract: the rows are the names of the definition, computed for each two letters.
-use Rattle.names.specs.Tests.{within}
-use Rattle.names.specs.Names.{names, lower, spelledSo}
-use Rattle.names.specs.Table.{keyOf, beginning, told, packed, rowsOf}
+use Rattle.names.specs.Names.{names, spelledSo}
+use Rattle.names.specs.Table.{fold, keyOf, beginning, told, packed, rowsOf}
 use Rattle.names.proofs.Rows.{no-row}
 use Rattle.names.proofs.table.rows.Statement.{statement}
 use Rattle.names.proofs.table.rows.Tie as tie
 
 pub rows-spec : {M : Type 1} → statement M
-unfolding within names lower spelledSo keyOf beginning told packed rowsOf
+unfolding names spelledSo fold keyOf beginning told packed rowsOf
 rows-spec =
     tie.close
     (tie.spec
