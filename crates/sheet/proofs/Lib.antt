@@ -1,5 +1,6 @@
 pub mod Laws
 pub mod Warned
+pub mod Short
 pub mod Moves
 pub mod Turns
 pub mod Readings

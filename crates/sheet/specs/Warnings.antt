@@ -3,7 +3,7 @@ use Prim.Native.Nat.{ℕ, _+_, _≤_}
 use mathlib.Core.List.{List, [], _∷_}
 use mathlib.Core.Bool.{Bool, true, false, _&&_, _||_, not}
 use mathlib.Core.Path.{_≡_}
-use lib.ListN.{take, drop}
+use lib.ListN.{getD, take, drop}
 use Rattle.names.specs.Tests.{if_then_else_, within}
 use Rattle.names.specs.Quotes.{flips}
 use Rattle.names.specs.Read.{Read, got, none, refused}
@@ -13,6 +13,10 @@ use Rattle.names.specs.Spellings.{spelt, warns}
 -- a letter
 unfoldable pub isLetter : ℕ → Bool
 isLetter b = within 65 90 b || within 97 122 b
+
+-- a capital, a small letter and no letter behind them
+unfoldable pub shortCapital : List ℕ → Bool
+shortCapital s = within 65 90 (getD s 0 0) && within 97 122 (getD s 1 0) && not (isLetter (getD s 2 0))
 
 -- whether the name that was found at the start of a text calls for a warning
 abbrev pub calls : List ℕ → Read Word → Bool

@@ -23,6 +23,19 @@ fn is_letter(b: u8) -> bool
     }
 }
 
+// A capital, a small letter and no letter behind them: no name that is written so calls for a warning.
+fn short_capital(s: &[u8], at: usize) -> bool
+    requires { ⌜ at < length (now s) ⌝ }
+    ensures { λ r. ⌜ r ≡ warnings.shortCapital (drop at (now (s .entry))) ⌝ }
+{
+    if within(65, 90, Cursor { at }.byte(s) as u32) {
+        if within(97, 122, Cursor { at: at + 1 }.byte(s) as u32) {
+            return !is_letter(Cursor { at: at + 2 }.byte(s));
+        }
+    }
+    false
+}
+
 // Whether the name at a place calls for a warning.
 fn calls(s: &[u8], at: usize) -> bool
     requires { ⌜ at < length (now s) ⌝ }
@@ -44,6 +57,9 @@ fn warned(s: &[u8], at: usize, inside: bool) -> bool
     ensures { λ r. ⌜ r ≡ (not inside && warnings.calls (drop at (now (s .entry))) (word (drop at (now (s .entry))) 0)) ⌝ }
 {
     if inside {
+        return false;
+    }
+    if short_capital(s, at) {
         return false;
     }
     calls(s, at)

@@ -1,5 +1,7 @@
 -- `sheet::warned` meets its contract.
 use borrow.Author.Needs.{needs}
+use mathlib.Core.Path.{sym, _∙_}
+use Rattle.sheet.proofs.Short.{short-quiet}
 use Rattle.sheet.proofs.warnings.warned.Statement.{statement}
 use Rattle.sheet.proofs.warnings.warned.Tie as tie
 
@@ -8,5 +10,7 @@ warned-spec =
     tie.close
     (tie.spec
     (λ c. search needs)  -- returns
+    (λ c κs. search needs)  -- short-capital-requires
+    (λ c. rw (c .before .before .if1 .left) (sym (short-quiet _ (sym (c .before .short-capital .ensures) ∙ c .if2 .taken))))  -- returns-2
     (λ c κs. search needs)  -- calls-requires
-    (λ c. rw (c .before .if1 .left) (c .calls .ensures)))  -- returns-2
+    (λ c. rw (c .before .before .before .if1 .left) (c .calls .ensures)))  -- returns-3

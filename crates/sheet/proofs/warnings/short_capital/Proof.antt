@@ -1,0 +1,40 @@
+-- `sheet::short_capital` meets its contract.
+use Prim.Native.Nat.{ℕ, _+_}
+use borrow.Author.Needs.{needs}
+use native.Mathlib.Nat.{add-zero}
+use mathlib.Core.Bool.{_&&_, not}
+use mathlib.Core.List.{List}
+use mathlib.Core.Path.{_≡_, sym, _∙_}
+use denote.Ref.{now}
+use lib.ListN.{getD, drop}
+use lib.Seq.{getD-drop}
+use Rattle.names.specs.Tests.{within}
+use Rattle.sheet.specs.Warnings.{isLetter, shortCapital}
+use Rattle.sheet.proofs.warnings.short_capital.Statement.{statement}
+use Rattle.sheet.proofs.warnings.short_capital.Tie as tie
+
+-- the three bytes at a place
+three : (s : List ℕ) (i : ℕ) → shortCapital (drop i s) ≡ (within 65 90 (getD s i 0) && within 97 122 (getD s (i + 1) 0) && not (isLetter (getD s (i + 2) 0)))
+unfolding shortCapital
+three s i = rw (getD-drop i s 0 0, getD-drop i s 1 0, getD-drop i s 2 0, add-zero i)
+
+pub short-capital-spec : {M : Type 1} → statement M
+short-capital-spec =
+    tie.close
+    (tie.spec
+    (λ c κs. search needs)  -- byte-requires
+    (λ c. search needs)  -- cast-within
+    (λ c κs. search needs)  -- within-requires
+    (λ c. search needs)  -- add-t9
+    (λ c κs. search needs)  -- byte-requires-2
+    (λ c. search needs)  -- cast-within-2
+    (λ c κs. search needs)  -- within-requires-2
+    (λ c. search needs)  -- add-t14
+    (λ c κs. search needs)  -- byte-requires-3
+    (λ c κs. search needs)  -- is-letter-requires
+    (λ c. let t = c .before .before in let u = t .before .before .before in let a = u .before .before .before .before .args in
+    rw (three (now (a .s)) (a .at), ← u .before .before .byte .ensures, sym (u .before .within .ensures) ∙ u .if1 .taken, ← t .before .before .byte2 .ensures, sym (t .before .within2 .ensures) ∙ t .if2 .taken, ← c .before .byte3 .ensures, c .is-letter .ensures))  -- returns
+    (λ c. let u = c .before .before .before in let a = u .before .before .before .before .args in
+    rw (three (now (a .s)) (a .at), ← u .before .before .byte .ensures, sym (u .before .within .ensures) ∙ u .if1 .taken, ← c .before .before .byte2 .ensures, sym (c .before .within2 .ensures) ∙ c .if2 .left))  -- returns-2
+    (λ c. let a = c .before .before .before .before .args in
+    rw (three (now (a .s)) (a .at), ← c .before .before .byte .ensures, sym (c .before .within .ensures) ∙ c .if1 .left)))  -- returns-3
