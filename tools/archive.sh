@@ -1,20 +1,14 @@
-# To be sourced: the static library of the C entries, and how a C program over it is built and run here.
+# To be sourced: the static library of the C entries, and how a C program over it is built; "${emulator[@]}" runs it.
 #   ARCHIVE   the library (default: target/staticlib/libentries.a, proved and made if it is missing)
-# The library is x86-64 code: elsewhere a cross compiler and qemu-x86_64 stand in.
-root=$(cd "$(dirname "${BASH_SOURCE[0]}")/.." && pwd)
+. "$(dirname "${BASH_SOURCE[0]}")/x86.sh"
 archive=${ARCHIVE:-$root/target/staticlib/libentries.a}
-. "$root/tools/need.sh"
-case $(uname -m) in
-x86_64)
+x86_tools
+if [ "$(uname -m)" = x86_64 ]; then
     need gcc gcc libc6-dev
-    compiler="gcc" run=()
-    ;;
-*)
-    need x86_64-linux-gnu-gcc gcc-x86-64-linux-gnu libc6-dev-amd64-cross
-    need qemu-x86_64 qemu-user
-    compiler="x86_64-linux-gnu-gcc -static" run=(qemu-x86_64)
-    ;;
-esac
+    compiler="gcc"
+else
+    compiler="x86_64-linux-gnu-gcc -static"
+fi
 [ -f "$archive" ] || (cd "$root" && rt staticlib entries)
 
 # build PROGRAM FILE.c [WORDS...]

@@ -7,16 +7,16 @@ here=$(cd "$(dirname "$0")" && pwd)
 . "$here/../archive.sh"
 seed=${1:-1} calls=${2:-5000000} dir=$root/target/fuzz faults=28
 build "$dir/fuzz" "$here/fuzz.c"
-"${run[@]}" "$dir/fuzz" "$seed" "$calls" end
-"${run[@]}" "$dir/fuzz" "$((seed + 1))" "$calls" begin
+"${emulator[@]}" "$dir/fuzz" "$seed" "$calls" end
+"${emulator[@]}" "$dir/fuzz" "$((seed + 1))" "$calls" begin
 
 build "$dir/faulty" "$here/fuzz.c" "$here/faults.c" -Wl,--wrap=lorukinde_read_sheet,--wrap=lorukinde_read_part,--wrap=lorukinde_note
-FAULT=0 "${run[@]}" "$dir/faulty" "$seed" 100000 end >/dev/null
+FAULT=0 "${emulator[@]}" "$dir/faulty" "$seed" 100000 end >/dev/null
 found=0
 for ((n = 1; n <= faults; n++)); do
     ended=0
     for side in end begin; do # (a step over one side is seen where the unreadable page is, or by its mark)
-        FAULT=$n "${run[@]}" "$dir/faulty" "$seed" 100000 $side >"$dir/log" || ended=1
+        FAULT=$n "${emulator[@]}" "$dir/faulty" "$seed" 100000 $side >"$dir/log" || ended=1
     done
     if [ $ended = 1 ]; then found=$((found + 1)); else echo "not found: fault $n"; fi
 done

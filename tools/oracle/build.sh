@@ -3,6 +3,9 @@
 # A second binary, oracle-digits, has a grammar that takes numbers of any value, so that only the builders judge them.
 #   RUST_SRC   folder of the Rust (default: ../shared/docs/src beside the repository)
 #   BUILD      build folder (default: target/oracle)
+#   NUMBERS    the grammars' numbers: ranges and digits (default: both)
+#   X86        if set: built for x86-64 on any processor (tools/x86.sh)
+# It is cargo's release build; CARGO_PROFILE_RELEASE_LTO and the like change that.
 set -euo pipefail
 here=$(cd "$(dirname "$0")" && pwd)
 src=${RUST_SRC:-$here/../../../shared/docs/src}
@@ -14,6 +17,10 @@ for file in parser.rs lib.rs error.rs display.rs extended_time.rs rules/day.rs r
 done
 command -v cargo >/dev/null || { echo "missing: cargo, of edition 2024" >&2; exit 1; }
 
+if [ -n "${X86:-}" ]; then
+    . "$here/../x86.sh"
+    x86_cargo
+fi
 packages="librust-pest-dev librust-pest-derive-dev librust-chrono-dev"
 dpkg -s $packages >/dev/null 2>&1 || { apt-get update -qq || true; apt-get install -y --no-install-recommends $packages; }
 registry=$(dpkg -L librust-pest-dev | sed -n 's|/pest-[^/]*/Cargo.toml$||p' | head -n 1)
@@ -43,7 +50,7 @@ impl Weekday {
 }
 END
 
-for numbers in ranges digits; do
+for numbers in ${NUMBERS:-ranges digits}; do
     dir=$build/$numbers
     rm -rf "$dir"
     mkdir -p "$dir/syntax/src" "$dir/src"
@@ -78,13 +85,10 @@ edition = "2024"
 [dependencies]
 opening-hours-syntax = { path = "syntax" }
 chrono = { path = "../chrono", default-features = false }
-[profile.release] # the Rust at its best, for the count of instructions
-lto = true
-codegen-units = 1
 END
     (cd "$dir" && cargo build --offline --release -j1)
     case $numbers in ranges) name=oracle ;; digits) name=oracle-digits ;; esac
-    cp "$build/out/release/oracle" "$build/$name"
+    cp "$build/out/${CARGO_BUILD_TARGET:+$CARGO_BUILD_TARGET/}release/oracle" "$build/$name"
     diff -r "$rust" "$dir/syntax/src" | grep -v '^Only in .*/syntax/src' && { echo "the Rust was changed" >&2; exit 1; }
     echo "built: $build/$name"
 done

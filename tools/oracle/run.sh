@@ -8,4 +8,4 @@ here=$(cd "$(dirname "$0")" && pwd)
 . "$here/../archive.sh"
 [ -x "$root/target/oracle/oracle" ] || "$here/build.sh"
 build "$root/target/oracle/entry" "$here/entry.c"
-exec python3 "$here/compare.py" --ours "${run[*]} '$root/target/oracle/entry'" --whole --seed "${1:-1}" --count "${2:-500000}"
+exec python3 "$here/compare.py" --ours "${emulator[*]} '$root/target/oracle/entry'" --whole --seed "${1:-1}" --count "${2:-500000}"

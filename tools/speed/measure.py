@@ -1,7 +1,7 @@
 #!/usr/bin/env python3
 """What a reading costs: instructions a sheet, ours and the Rust's, and how the cost grows with the sheet. Writes the tables of docs/SPEED.md.
 
-    measure.py BENCH [ORACLE] [--emulated PLUGIN]
+    measure.py BENCH [NAME=ORACLE ...] [--emulated PLUGIN]
 
 Instructions are counted (callgrind; with --emulated by qemu-x86_64 and the plugin insn.c), for two numbers of rounds: the difference, by the rounds and
 the sheets between them, is one reading without start and end of the process. It is the same in every run. Seconds, on x86-64 alone, are the best of
@@ -93,24 +93,24 @@ def sheets_by_size(size):
 def main():
     p = argparse.ArgumentParser()
     p.add_argument("bench")
-    p.add_argument("oracle", nargs="?")
+    p.add_argument("rust", nargs="*")
     p.add_argument("--emulated", metavar="PLUGIN")
     args = p.parse_args()
     meter = Meter(args.emulated)
-    ours, rust = [args.bench], [args.oracle, "bench"] if args.oracle else None
+    ours = [args.bench]
+    rusts = [(name, [path, "bench"]) for name, _, path in (r.partition("=") for r in args.rust)]
 
     sheets = lines_of(COMMON)
-    for words in filter(None, (ours, rust)):
+    for words in [ours] + [words for _, words in rusts]:
         if meter.accepted([*words, COMMON, "1"]) != len(sheets):
             sys.exit(f"not every common sheet is accepted by {words}")
     print(f"{len(sheets)} common sheets, {sum(map(len, sheets)) / len(sheets):.1f} bytes on average:\n")
     print("| reader | instructions a sheet | microseconds a sheet |\n|---|---|---|")
     figures = []
-    for name, words, few, many in (("`lorukinde_read_sheet`", ours, 10, 110), ("the Rust", rust, 2, 12)):
-        if words:
-            figures.append(meter.each(words, COMMON, few, many))
-            wall = "" if args.emulated else f"{1e6 * meter.best(words, COMMON, few, 40 * many):.2f}"
-            print(f"| {name} | {figures[-1]:,.0f} | {wall} |", flush=True)
+    for name, words, few, many in [("`lorukinde_read_sheet`", ours, 10, 110)] + [(name, words, 2, 12) for name, words in rusts]:
+        figures.append(meter.each(words, COMMON, few, many))
+        wall = "" if args.emulated else f"{1e6 * meter.best(words, COMMON, few, 40 * many):.2f}"
+        print(f"| {name} | {figures[-1]:,.0f} | {wall} |", flush=True)
 
     print("\nInstructions of one reading by the sheet's size in bytes:\n")
     print("| sheet | " + " | ".join(f"{n:,}" for n in SIZES) + " | 4,096 by 24 |\n|---|" + "---|" * (len(SIZES) + 1))
@@ -128,10 +128,9 @@ def main():
     print("\n| asked | seen | met |\n|---|---|---|")
     asked("at most 5,000 instructions a common sheet", f"{figures[0]:,.0f}", figures[0] <= 5000)
     asked("the aim: at most 2,500", f"{figures[0]:,.0f}", figures[0] <= 2500)
-    if rust:
-        asked("at least 10 times fewer than the Rust", f"{figures[1] / figures[0]:.1f} times", figures[1] >= 10 * figures[0])
+    for (name, _), figure in zip(rusts, figures[1:]):
+        asked(f"at least 10 times fewer than {name}", f"{figure / figures[0]:.1f} times", figure >= 10 * figures[0])
     asked("a sheet of 4,096 bytes costs at most 200 times one of 24", f"at most {max(growth):.0f} times", max(growth) <= 200)
-
 
 
 if __name__ == "__main__":

@@ -1,18 +1,27 @@
 #!/usr/bin/env bash
 # What a reading costs, ours and the Rust's in one run: writes the tables of docs/SPEED.md.
-#   ORACLE   the Rust's program (default: target/oracle/oracle, built if it is missing; empty: left out)
-# On x86-64 valgrind counts. Elsewhere qemu-x86_64 does; then the Rust is left out unless ORACLE is an x86-64 program, linked statically.
+#   NO_RUST   if set: the Rust is left out
+# On x86-64 valgrind counts. Elsewhere both are built for x86-64 and qemu-x86_64 counts.
 set -euo pipefail
 here=$(cd "$(dirname "$0")" && pwd)
 . "$here/../archive.sh"
 dir=$root/target/speed
 build "$dir/bench" "$here/bench.c"
+
+# rust FOLDER: the Rust, as the environment has it, if it is not there
+rust() {
+    [ -x "$dir/$1/oracle" ] || BUILD=$dir/$1 NUMBERS=ranges X86=1 "$here/../oracle/build.sh" >&2
+}
+rusts=()
+if [ -z "${NO_RUST:-}" ]; then
+    rust release
+    CARGO_PROFILE_RELEASE_LTO=true CARGO_PROFILE_RELEASE_CODEGEN_UNITS=1 rust lto
+    rusts=("the Rust=$dir/release/oracle" "the Rust, with LTO over one unit=$dir/lto/oracle")
+fi
 if [ "$(uname -m)" = x86_64 ]; then
     need valgrind valgrind
-    oracle=${ORACLE-$root/target/oracle/oracle}
-    [ -z "$oracle" ] || [ -x "$oracle" ] || "$here/../oracle/build.sh"
-    exec python3 "$here/measure.py" "$dir/bench" ${oracle:+"$oracle"}
+    exec python3 "$here/measure.py" "$dir/bench" "${rusts[@]}"
 fi
 need gcc gcc libc6-dev
 gcc -O2 -shared -fPIC "$here/insn.c" -o "$dir/insn.so"
-exec python3 "$here/measure.py" "$dir/bench" ${ORACLE:+"$ORACLE"} --emulated "$dir/insn.so"
+exec python3 "$here/measure.py" "$dir/bench" "${rusts[@]}" --emulated "$dir/insn.so"
