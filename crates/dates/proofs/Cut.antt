@@ -18,7 +18,7 @@ use Rattle.records.specs.declared.Item.{Item}
 use Rattle.records.proofs.Cut.{Alike, Refuses, refuses-if, meant-alike, item-alike}
 use Rattle.days.proofs.Cut.{offset-alike}
 use Rattle.dates.specs.Ranges.{stepped, untilLast, goodRange}
-use Rattle.dates.specs.Years.{yearBehind, yearShape, yearMeaning, yearItem, yearItemBehind}
+use Rattle.dates.specs.Years.{yearBehind, yearShape, yearMeaning, yearItem}
 use Rattle.dates.specs.Weeks.{weekShape, weekMeaning, weekItem}
 use Rattle.dates.specs.Dates.{optionalYear, backNth, frontNth, nth, weekdayOf, dayOf, dayBehind, date, rawDate}
 use Rattle.dates.specs.Ends.{untilDate, bareDay, until, endShape, datesBehind}
@@ -126,14 +126,10 @@ pub week-refuses : (r : RawRange) → Refuses (weekMeaning r)
 unfolding weekMeaning
 week-refuses r = refuses-if (not (goodRange 1 53 r)) _ _ (omega arith) (refuses-if (ltb 255 r.step) _ _ (omega arith) (refuses-if (ltb r.last r.first) _ _ (omega arith) tt))
 
--- an item of a year list, one behind its first year, and an item of a week list
+-- an item of a year list, and one of a week list
 pub yearItem-alike : {u : List ℕ} → Alike u 4 yearItem
 unfolding yearItem
 yearItem-alike = item-alike yearShape-alike yearMeaning year-refuses
-
-pub yearItemBehind-alike : {u : List ℕ} (p first : ℕ) → Local Stop keep u false false 0 (yearItemBehind (length u + p) first) (yearItemBehind p first)
-unfolding yearItemBehind
-yearItemBehind-alike p first = meant-alike (yearBehind-alike first) yearMeaning year-refuses p
 
 pub weekItem-alike : {u : List ℕ} → Alike u 1 weekItem
 unfolding weekItem

@@ -1,24 +1,23 @@
 -- Each definition depends on nothing before its place and nothing from a `;` outside quotes on: the lemmas put together as the definitions are.
-use Prim.Native.Nat.{ℕ, _+_}
+use Prim.Native.Nat.{ℕ}
 use mathlib.Core.List.{List}
 use mathlib.Core.Bool.{true, false, _&&_, not}
 use mathlib.Core.Path.{refl}
 use native.Mathlib.Omega.{arith}
 use lib.Dec.{eqb}
-use lib.ListN.{length}
 use Rattle.names.specs.Names.{weekday, holiday, day}
-use Rattle.names.proofs.Local.{Stop, keep, Local, free, pure-local, then-local, or-local, maybe-local}
+use Rattle.names.proofs.Local.{free, pure-local, then-local, or-local, maybe-local}
 use Rattle.names.proofs.Cut.{byte-local, blank-local, count-local, ordinal-local}
 use Rattle.names.proofs.Chains.{many-local}
 use Rattle.names.proofs.NameCut.{name-local}
 use Rattle.records.specs.declared.Signed.{Signed}
 use Rattle.records.specs.declared.Item.the-variants.{Holidays}
 use Rattle.records.specs.declared.Meant.the-variants.{Is, Refused}
-use Rattle.records.proofs.Cut.{Alike, Refuses, refuses-if, meant-alike, item-alike}
+use Rattle.records.proofs.Cut.{Alike, Refuses, refuses-if, item-alike}
 use Rattle.days.specs.Offsets.{plusOrMinus, dayOffset, noDays, anyDays, wdayOffset, offset, goodDays, daysOf}
 use Rattle.days.specs.Entries.{backEntry, frontEntry, entry, nextEntry, entries, bits}
-use Rattle.days.specs.Weekdays.{untilWeekday, withEntries, weekdayBehind, weekdayShape, weekdaysOf, flagged, weekdayMeaning, weekdayItem, weekdayItemBehind}
-use Rattle.days.specs.Holidays.{holidayBehind, holidayShape, holidayMeaning, holidayItem, holidayItemBehind}
+use Rattle.days.specs.Weekdays.{untilWeekday, withEntries, weekdayBehind, weekdayShape, weekdaysOf, flagged, weekdayMeaning, weekdayItem}
+use Rattle.days.specs.Holidays.{holidayBehind, holidayShape, holidayMeaning, holidayItem}
 use Rattle.days.specs.declared.RawWeekdays.{RawWeekdays}
 use Rattle.days.specs.declared.RawHoliday.{RawHoliday}
 
@@ -110,14 +109,6 @@ module _ {u : List ℕ} where
   unfolding weekdayItem
   weekdayItem-alike = item-alike weekdayShape-alike weekdayMeaning weekday-refuses
 
-  pub weekdayItemBehind-alike : (p first : ℕ) → Local Stop keep u false false 0 (weekdayItemBehind (length u + p) first) (weekdayItemBehind p first)
-  unfolding weekdayItemBehind
-  weekdayItemBehind-alike p first = meant-alike (weekdayBehind-alike first) weekdayMeaning weekday-refuses p
-
   pub holidayItem-alike : Alike u 1 holidayItem
   unfolding holidayItem
   holidayItem-alike = item-alike holidayShape-alike holidayMeaning holiday-refuses
-
-  pub holidayItemBehind-alike : (p kind : ℕ) → Local Stop keep u false false 0 (holidayItemBehind (length u + p) kind) (holidayItemBehind p kind)
-  unfolding holidayItemBehind
-  holidayItemBehind-alike p kind = meant-alike (holidayBehind-alike kind) holidayMeaning holiday-refuses p

@@ -1,7 +1,7 @@
 -- Digits one after another, n of them taken.
 use Prim.Native.Nat.{ℕ, suc, _+_, _-_, _*_, _^_, _≤_, _<_}
 use mathlib.Core.List.{List, []}
-use mathlib.Core.Path.{_≡_, refl, ap, _∙_}
+use mathlib.Core.Path.{_≡_}
 use native.Mathlib.Omega.{arith}
 use native.Mathlib.Nat.{sub-zero, pow-le-pow-right}
 use native.Mathlib.Numerals.{add-one}

@@ -5,8 +5,7 @@ use mathlib.Core.Bool.{Bool, true}
 use mathlib.Core.Path.{_≡_, refl}
 use lib.Dec.{eqb}
 use lib.ListN.{length, getD, length-append}
-use lib.Seq.{getD-append-add}
-use Rattle.names.specs.Read.{one, ahead, atEnd}
+use Rattle.names.specs.Read.{one, atEnd}
 use Rattle.names.specs.Texts.{byte}
 use Rattle.names.proofs.Local.{Ended, Behind, stop-end, At, keep, Local, map-local, one-turns, look-local, compare-add}
 
@@ -24,14 +23,6 @@ one-ended {a = a} {c} p = one-turns p turns cut
 pub byte-ended : {u : List ℕ} {a c : Bool} (b : ℕ) → Local Ended keep u a c 1 (byte b) (byte b)
 unfolding byte
 byte-ended b = map-local _ _ (λ x. refl) (one-ended (eqb b))
-
--- a look at the byte
-pub ahead-ended : {u : List ℕ} {a : Bool} (p : ℕ → Bool) → Local Ended keep u a a 0 (ahead p) (ahead p)
-unfolding ahead
-ahead-ended {u} {a} p = look-local (λ s i. p (getD s i 0)) alike
-  where
-    alike : (s v : List ℕ) (i : ℕ) → Behind Ended v → At v a s i → p (getD (u ++ (s ++ v)) (length u + i) 0) ≡ p (getD s i 0)
-    alike s v i stop-end w = simp (append-nil, getD-append-add)
 
 -- the text's end
 pub atEnd-ended : {u : List ℕ} {a : Bool} → Local Ended keep u a a 0 atEnd atEnd

@@ -3,13 +3,12 @@ use Prim.Native.Nat.{ℕ}
 use mathlib.Core.List.{List, [], _∷_, map}
 use mathlib.Core.Path.{_≡_, refl}
 use Rattle.names.specs.Tests.{within}
-use Rattle.names.specs.Read.{Read, got, none, Reader, one, ahead}
+use Rattle.names.specs.Read.{Read, got, none, one, ahead}
 use Rattle.names.specs.Chain.{chainIn, chain, many, skip}
-use Rattle.names.specs.Texts.{bytes, byte, allOf, blanks, blank}
+use Rattle.names.specs.Texts.{bytes, byte, allOf}
 use Rattle.names.specs.Numbers.{isDigit, digit, upTo, digits, clockBehind, number, year, count, ordinal, short, minutes}
-use Rattle.names.specs.Names.{Word, names, spelledSo, lower, letter, firstOf, word, name, weekday, month, event, modifier, holiday, day}
+use Rattle.names.specs.Names.{names, spelledSo, lower, letter, firstOf, word, name, weekday, month, event, modifier, holiday, day}
 use Rattle.names.specs.Spellings.{allSmall, written, spelt}
-use Rattle.names.specs.declared.Spelling.{Spelling}
 use Rattle.names.specs.declared.Spelling.the-variants.{Small, Capital, Other}
 
 -- numbers: their digits, the greatest width taken, and never before `:` and a digit

@@ -1,16 +1,16 @@
 -- The names as the code lays them out, against the list of names.
 use Prim.Native.Nat.{ℕ, zero, suc, _+_, _-_, _*_, _/_, _%_, _≤_, _<_}
 use mathlib.Core.Bool.{Bool, true, false, _&&_, true≢false, and-eq-true-iff}
-use mathlib.Core.List.{List, [], _∷_, _++_, map}
+use mathlib.Core.List.{List, [], _∷_, map}
 use mathlib.Core.Path.{_≡_, refl, sym, ap, _∙_}
 use native.Mathlib.Omega.{arith}
 use borrow.Author.Tests.{ne-eqb, eqb-true, leb-true}
 use lib.Dec.{eqb, leb}
-use lib.ListN.{length, getD, drop, replicate, List·getD-append, length-map, getD-replicate}
+use lib.ListN.{length, getD, replicate, List·getD-append, length-map, getD-replicate}
 use lib.Seq.{getD-append-add}
 use Rattle.names.specs.Tests.{if_then_else_, within}
 use Rattle.names.specs.Names.{Row, names, spelledSo}
-use Rattle.names.specs.Table.{fold, keyOf, beginning, told, packed, rowOf, padded, rowsOf}
+use Rattle.names.specs.Table.{fold, keyOf, beginning, rowOf, padded, rowsOf}
 use Rattle.names.proofs.Laws.{within-range}
 
 -- ---- how many names begin alike

@@ -1,14 +1,10 @@
 -- The pieces of a rule without fuel, a piece at a time, and that a rule has an opening and an end: what loops of the code go by.
-use Prim.Native.Nat.{ℕ, zero, suc, _-_, _≤_, _<_}
-use mathlib.Core.Bool.{Bool, true, false}
+use Prim.Native.Nat.{ℕ, _-_}
 use mathlib.Core.List.{List, []}
-use mathlib.Core.Path.{_≡_, refl, subst}
-use native.Mathlib.Omega.{arith}
-use native.Mathlib.Decide.{decLt}
+use mathlib.Core.Path.{_≡_, subst}
 use lib.Dec.{eqb}
-use lib.ListN.{length, getD}
-use Rattle.names.specs.Read.{Read, got, none, refused, Reader, follow, branch, nothing, pure, refuse, map, here, _>>=_, _>>_}
-use Rattle.names.specs.Chain.{before, last, chain, skip}
+use Rattle.names.specs.Read.{Read, got, none, refused, Reader, follow, branch, pure, map, _>>_}
+use Rattle.names.specs.Chain.{before, last, chain}
 use Rattle.names.specs.Texts.{blank, blanks}
 use Rattle.names.proofs.Local.{takes}
 use Rattle.names.proofs.Fuel.{chain-is}
@@ -18,7 +14,6 @@ use Rattle.rules.specs.Musts.{missing}
 use Rattle.rules.specs.Comments.{noComment}
 use Rattle.rules.specs.Modifiers.{tailOf, modifier, selected}
 use Rattle.rules.specs.Pieces.{more, stageBehind, piece, end}
-use Rattle.rules.specs.Rules.{openingOf, always, wideComment, opening}
 use Rattle.rules.specs.declared.Tail.{Tail}
 use Rattle.rules.specs.declared.Stage.{Stage}
 use Rattle.rules.specs.declared.Stage.the-variants.{Beginning, Always, Colon, Years, MonthDays, Weeks, Weekdays, Holidays, LastHolidays, LastWeekdays, Times}
@@ -82,13 +77,6 @@ module _ (s : List ℕ) (i : ℕ) where
   ended LastWeekdays = selected-sure
   ended Times = selected-sure
 
-  opened : Sure (opening s i)
-  unfolding opening
-  opened = or-sure s i (always s i) _ (or-sure s i (wideComment s i) (pure (openingOf Beginning noComment)) tt)
-
--- a rule has an end, and an opening
+-- a rule has an end
 pub end-sure : (x : Stage) (s : List ℕ) (i : ℕ) → end x s i ≡ none → ⊥
 end-sure x s i = sure (ended s i x)
-
-pub opening-sure : (s : List ℕ) (i : ℕ) → opening s i ≡ none → ⊥
-opening-sure s i = sure (opened s i)

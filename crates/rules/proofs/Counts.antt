@@ -1,15 +1,15 @@
 -- A rule counted item by item: what the loops over its pieces go by.
-use Prim.Native.Nat.{ℕ, suc, _+_, _≤_, _<_}
-use mathlib.Core.List.{List, [], _∷_}
-use mathlib.Core.Path.{_≡_, refl, sym, ap, _∙_, fun-ext}
+use Prim.Native.Nat.{ℕ, _+_}
+use mathlib.Core.List.{List}
+use mathlib.Core.Path.{_≡_, sym, ap, _∙_, fun-ext}
 use native.Mathlib.Omega.{arith}
-use native.Mathlib.Nat.{zero-add, add-assoc, add-zero}
+use native.Mathlib.Nat.{zero-add, add-zero}
 use lib.ListN.{length}
-use Rattle.names.specs.Read.{Read, got, none, refused, Reader, follow, nothing, pure, map}
-use Rattle.names.specs.Chain.{before, last, chain}
+use Rattle.names.specs.Read.{got, none, refused, Reader, map}
+use Rattle.names.specs.Chain.{chain}
 use Rattle.records.specs.declared.Item.{Item}
 use Rattle.rules.specs.Pieces.{more, stageBehind, piece, end}
-use Rattle.rules.specs.Rules.{opening, headOf, Rule, ruleOf, behind, rule, counted}
+use Rattle.rules.specs.Rules.{opening, headOf, ruleOf, behind, rule, counted}
 use Rattle.rules.specs.declared.Comment.{Comment}
 use Rattle.rules.specs.declared.Opening.{Opening}
 use Rattle.rules.specs.declared.Stage.{Stage}

@@ -167,10 +167,6 @@ wideComment-local =
     let f : Comment → Reader Opening = λ c. branch (byte 58) (λ _. pure (openingOf Colon c)) nothing in
     branch-moved f f comment-local (λ c. then-local (byte-local 58 refl refl) (λ _. pure-local (openingOf Colon c))) nothing-local
 
-pub opening-local : {u : List ℕ} → Local Stop openingMoves u false false 0 opening opening
-unfolding opening
-opening-local = or-local (free always-local) (or-local (free wideComment-local) (pure-local (openingOf Beginning noComment)))
-
 -- ---- the first items of lists
 
 module _ {u : List ℕ} where

@@ -25,13 +25,7 @@ fn keep_bytes(table: &mut [u8], slot: usize, w: [i32; 16])
 }
 
 // A rule is read, and its records go into a table of bytes, by the steps of `fill_rule`.
-pub fn fill_rule_bytes(
-    s: &[u8],
-    c: Cursor,
-    separator: u8,
-    table: &mut [u8],
-    slot: usize,
-) -> RuleRead
+pub fn fill_as_bytes(s: &[u8], c: Cursor, separator: u8, table: &mut [u8], slot: usize) -> RuleRead
     requires { ⌜ length (now s) ≤ 4096 ⌝ }
     requires { ⌜ slot ≤ 4096 * 4097 ⌝ }
     ensures head { λ r. ⌜ rules.counted separator (now (s .entry)) (c .at) ≡ seenRule r ⌝ }
@@ -52,8 +46,8 @@ pub fn fill_rule_bytes(
         match more {
             ItemRead::Got(a, d) => {
                 n += 1;
-                keep_bytes(table, slot + n, words_of(a));
                 spot = spot.behind(a, d);
+                keep_bytes(table, slot + n, words_of(a));
             }
             ItemRead::Missing => {
                 let r = ended(s, spot, separator, wide, n);

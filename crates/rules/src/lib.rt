@@ -9,7 +9,7 @@ mod pieces;
 mod rule;
 mod separators;
 
-pub use byte_rule::fill_rule_bytes;
+pub use byte_rule::fill_as_bytes;
 use names::Cursor;
 pub use rule::fill_rule;
 pub use separators::next_rule;

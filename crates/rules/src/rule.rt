@@ -62,8 +62,8 @@ pub fn fill_rule(s: &[u8], c: Cursor, separator: u8, table: &mut [i32], slot: us
         match more {
             ItemRead::Got(a, d) => {
                 n += 1;
-                keep(table, slot + n, words_of(a));
                 spot = spot.behind(a, d);
+                keep(table, slot + n, words_of(a));
             }
             ItemRead::Missing => {
                 let r = ended(s, spot, separator, wide, n);

@@ -10,7 +10,7 @@ use crate::Parted;
 use crate::texts::parted;
 use names::Cursor;
 use rules::Next;
-use rules::fill_rule_bytes;
+use rules::fill_as_bytes;
 
 // The rules of a text are read, and their records go into a table of bytes, by the steps of `fill_rules`.
 pub fn fill_rules_bytes(s: &[u8], p: usize, table: &mut [u8]) -> Counted
@@ -23,7 +23,7 @@ pub fn fill_rules_bytes(s: &[u8], p: usize, table: &mut [u8]) -> Counted
     let mut separator: u8 = 0;
     loop {
         let c = Cursor { at }.blanks(s);
-        let r = parted(s, c, fill_rule_bytes(s, c, separator, table, slot));
+        let r = parted(s, c, fill_as_bytes(s, c, separator, table, slot));
         match r {
             Parted::Got(items, behind, d) => {
                 slot += items + 1;

@@ -1,18 +1,17 @@
 -- Times and spans depend on nothing before their place and nothing from a `;` outside quotes on: the lemmas put together as the definitions are.
-use Prim.Native.Nat.{ℕ, _+_}
+use Prim.Native.Nat.{ℕ}
 use mathlib.Core.List.{List}
-use mathlib.Core.Bool.{false, not}
+use mathlib.Core.Bool.{not}
 use mathlib.Core.Path.{refl}
 use native.Mathlib.Omega.{arith}
-use lib.ListN.{length}
 use Rattle.names.specs.Names.{event}
-use Rattle.names.proofs.Local.{Stop, keep, Local, loose, free, pure-local, then-local, or-local}
+use Rattle.names.proofs.Local.{loose, free, pure-local, then-local, or-local}
 use Rattle.names.proofs.Cut.{byte-local, hour-local, minute-local, minutes-local}
 use Rattle.names.proofs.NameCut.{name-local}
-use Rattle.records.proofs.Cut.{Alike, Refuses, refuses-if, meant-alike, item-alike}
+use Rattle.records.proofs.Cut.{Alike, Refuses, refuses-if, item-alike}
 use Rattle.records.specs.declared.Meant.the-variants.{Refused}
-use Rattle.times.specs.Times.{clock, moved, movedEvent, rawTime, eventAlone}
-use Rattle.times.specs.Spans.{repeated, tail, untilTime, spanBehind, spanShape, timeItem, eventItemBehind}
+use Rattle.times.specs.Times.{clock, moved, movedEvent, rawTime}
+use Rattle.times.specs.Spans.{repeated, tail, untilTime, spanBehind, spanShape, timeItem}
 use Rattle.times.specs.Meanings.{goodSpan, spanOf, spanMeaning}
 use Rattle.times.specs.declared.RawTime.{RawTime}
 use Rattle.times.specs.declared.RawSpan.{RawSpan}
@@ -71,11 +70,7 @@ meaning-refuses r = refuses-if (not (goodSpan r)) (Refused 4) (spanOf r) (omega 
     go (Open t) = tt
     go (Until a b t) = tt
 
--- an item of a time list, and one behind its event
+-- an item of a time list
 pub timeItem-alike : {u : List ℕ} → Alike u 1 timeItem
 unfolding timeItem
 timeItem-alike = item-alike spanShape-alike spanMeaning meaning-refuses
-
-pub eventItemBehind-alike : {u : List ℕ} (p e : ℕ) → Local Stop keep u false false 0 (eventItemBehind (length u + p) e) (eventItemBehind p e)
-unfolding eventItemBehind
-eventItemBehind-alike p e = meant-alike (spanBehind-alike (eventAlone e)) spanMeaning meaning-refuses p

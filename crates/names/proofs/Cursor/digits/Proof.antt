@@ -2,7 +2,7 @@
 use Prim.Native.Nat.{ℕ, _-_, _≤_, _<_, _^_}
 use borrow.Author.Needs.{needs}
 use native.Mathlib.Omega.{arith}
-use mathlib.Core.Path.{_≡_, refl, sym, ap, _∙_}
+use mathlib.Core.Path.{_≡_, sym, _∙_}
 use Rattle.names.specs.Numbers.{upTo, digits}
 use Rattle.names.proofs.Facts.{Was, was}
 use Rattle.names.proofs.Digits.{digits-start, digit-more, digit-none, digits-full, grown, below, enough-small}

@@ -1,10 +1,10 @@
 -- `names::Cursor::word` meets its contract: what is left to search gives what the whole search gives.
-use Prim.Native.Nat.{ℕ, _+_, _-_, _*_, _≤_, _<_}
+use Prim.Native.Nat.{ℕ, _+_, _-_, _<_}
 use borrow.Author.Needs.{needs}
 use native.Mathlib.Omega.{arith}
-use mathlib.Core.Path.{_≡_, refl, sym, ap, _∙_}
+use mathlib.Core.Path.{sym, ap, _∙_}
 use denote.Ref.{now}
-use lib.ListN.{length, getD}
+use lib.ListN.{length}
 use Rattle.names.specs.Names.{names}
 use Rattle.names.specs.Table.{compared, key, beginning, padded, rowsOf}
 use Rattle.names.proofs.Laws.{inside}

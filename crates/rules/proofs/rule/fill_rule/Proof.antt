@@ -1,5 +1,5 @@
 -- `rules::fill_rule` meets its contract: the table, with the items that are left stored behind those that are, is the table filled.
-use Prim.Native.Nat.{suc, _+_, _*_, _-_, _≤_}
+use Prim.Native.Nat.{_-_}
 use borrow.Author.Needs.{needs}
 use native.Mathlib.Omega.{arith}
 use mathlib.Core.Path.{_≡_, refl, sym, ap, _∙_}
@@ -59,14 +59,14 @@ fill-rule-spec =
     (λ c κs. search needs)  -- more-requires
     (λ c. search needs)  -- enum-known-more
     (λ c. omega (arith, past-one (more-alike _) (item (c .before) .is), c .before .before .before .before .loop .inv .low))  -- add-n
-    (λ c. let l = c .before .before .before .before .before in omega (arith, past-one (more-alike _) (item (c .before .before) .is), l .loop .inv .few, l .before .before .before .before .before .before .pre .1, l .before .before .before .before .before .before .pre .0))  -- add-keep
+    (λ c κs. search needs)  -- behind-requires
+    (λ c. let b = c .before in let l = b .before .before .before .before .before in omega (arith, past-one (more-alike _) (item (b .before .before) .is), l .loop .inv .few, l .before .before .before .before .before .before .pre .1, l .before .before .before .before .before .before .pre .0))  -- add-keep
     (λ c κs. search needs)  -- words-of-requires
     (λ c κs. search needs)  -- keep-requires
-    (λ c κs. search needs)  -- behind-requires
-    (λ c. omega (arith, c .behind2 .ensures .0, past-one (more-alike _) (item (c .before .before .before .before .before .before) .is)))  -- loop-less
-    (λ c. let l = c .before .before .before .before .before .before .before .before .before in
-    rw (c .behind2 .ensures .0, c .behind2 .ensures .1, c .before .before .keep .ensures, c .before .before .before .words-of .ensures)
-    (turn-more asWords _ _ _ _ _ _ _ (l .loop .table) (l .loop .n) (l .loop .spot .stage) (l .loop .spot .at) (l .loop .inv) (item (c .before .before .before .before .before .before) .is)))  -- loop-again
+    (λ c. let b = c .before .before .before .before in omega (arith, b .behind2 .ensures .0, past-one (more-alike _) (item (b .before .before) .is)))  -- loop-less
+    (λ c. let k = c .before in let w = k .before in let b = w .before .before in let l = b .before .before .before .before .before in
+    rw (b .behind2 .ensures .0, b .behind2 .ensures .1, k .keep .ensures, w .words-of .ensures)
+    (turn-more asWords _ _ _ _ _ _ _ (l .loop .table) (l .loop .n) (l .loop .spot .stage) (l .loop .spot .at) (l .loop .inv) (item (b .before .before) .is)))  -- loop-again
     (λ c. search needs)  -- enum-told
     (λ c κs. search needs)  -- ended-requires
     (λ c. search needs)  -- enum-known-r

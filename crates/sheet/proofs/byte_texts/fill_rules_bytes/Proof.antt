@@ -9,9 +9,8 @@ use Rattle.names.specs.Read.{map}
 use Rattle.rules.specs.Tables.{asBytes}
 use Rattle.rules.specs.declared.Next.{Next}
 use Rattle.rules.specs.declared.Next.the-variants.{Another, Finished}
-use Rattle.sheet.specs.Texts.{moreRules, rules}
-use Rattle.sheet.specs.Seen.{seenParted, countFrom, FilledFrom}
-use Rattle.sheet.specs.declared.Counted.the-variants.{Got, Refused}
+use Rattle.sheet.specs.Texts.{moreRules}
+use Rattle.sheet.specs.Seen.{seenParted}
 use Rattle.sheet.proofs.Turns.{sizes, step, Turned, turned, Filling, filling-begin, filling-more, filling-end, filling-refused}
 use Rattle.sheet.proofs.byte_texts.fill_rules_bytes.Statement.{statement}
 use Rattle.sheet.proofs.byte_texts.fill_rules_bytes.Tie as tie
@@ -25,7 +24,7 @@ abbrev μ-loop : tie.MeasureT-loop
 -- what a turn reads, as the code reads it
 abbrev read : (c : tie.After-parted Inv-loop μ-loop) → let l = c .before .before .before .before .before .before in map sizes (moreRules (Another (l .loop .separator))) (now (l .before .before .before .args .s)) (l .loop .at) ≡ seenParted (c .parted .result)
 read c = let b = c .before .before .before .before .before in let l = b .before in
-    sym (step (l .loop .separator) (now (l .before .before .before .args .s)) (l .loop .at) (b .blanks .ensures)) ∙ rw (c .before .before .before .fill-rule-bytes .ensures .0) (c .parted .ensures)
+    sym (step (l .loop .separator) (now (l .before .before .before .args .s)) (l .loop .at) (b .blanks .ensures)) ∙ rw (c .before .before .before .fill-as-bytes .ensures .0) (c .parted .ensures)
 
 -- a rule, and what follows it
 abbrev turn : (c : tie.After-r Inv-loop μ-loop) → let l = c .before .before .before .before .before .before .before .before in let g = c .r .given .0 in Turned (l .loop .separator) (now (l .before .before .before .args .s)) (l .loop .at) (g .0) (g .1 .0) (g .1 .1 .0 .at)
@@ -60,11 +59,11 @@ fill-rules-bytes-spec =
     (λ c. search needs)  -- enum-told
     (λ c. let p = c .before .before .before .before .before in p .before .before .table .given ∙ p .before .before .before .before .before .before .loop .inv .same)  -- same-length
     (λ c. let p = c .before .before .before .before .before in let f = p .before .before .before in let b = p .before .before .before .before .before in let l = b .before in let a = l .before .before .before .args in
-    filling-end asBytes (now (a .s)) (a .p) (now (a .table)) (l .loop .table) _ (l .loop .slot) (l .loop .at) (l .loop .separator) (l .loop .inv) (b .blanks .ensures) (f .fill-rule-bytes .ensures .1) (none c))  -- returns
+    filling-end asBytes (now (a .s)) (a .p) (now (a .table)) (l .loop .table) _ (l .loop .slot) (l .loop .at) (l .loop .separator) (l .loop .inv) (b .blanks .ensures) (f .fill-as-bytes .ensures .1) (none c))  -- returns
     (λ c. let t = another (c .before) in omega (arith, t .later, t .stays))  -- loop-less
     (λ c. let p = c .before .before .before .before .before .before in let f = p .before .before .before in let b = p .before .before .before .before .before in let l = b .before in let a = l .before .before .before .args in
-    filling-more asBytes (now (a .s)) (a .p) (now (a .table)) (l .loop .table) _ (l .loop .slot) (l .loop .at) (l .loop .separator) (l .loop .inv) (b .blanks .ensures) (f .fill-rule-bytes .ensures .1) (l .before .before .before .pre) (p .before .before .table .given) (another (c .before)))  -- loop-again
+    filling-more asBytes (now (a .s)) (a .p) (now (a .table)) (l .loop .table) _ (l .loop .slot) (l .loop .at) (l .loop .separator) (l .loop .inv) (b .blanks .ensures) (f .fill-as-bytes .ensures .1) (l .before .before .before .pre) (p .before .before .table .given) (another (c .before)))  -- loop-again
     (λ c. search needs)  -- enum-known-r-2
     (λ c. let p = c .before .before .before in p .before .before .table .given ∙ p .before .before .before .before .before .before .loop .inv .same)  -- same-length-2
     (λ c. let p = c .before .before .before in let f = p .before .before .before in let b = p .before .before .before .before .before in let l = b .before in let a = l .before .before .before .args in
-    filling-refused asBytes (now (a .s)) (a .p) (now (a .table)) (l .loop .table) _ (l .loop .slot) (l .loop .at) (l .loop .separator) (l .loop .inv) (b .blanks .ensures) (f .fill-rule-bytes .ensures .1) (read p ∙ ap seenParted (c .before .r2 .given .1))))  -- returns-2
+    filling-refused asBytes (now (a .s)) (a .p) (now (a .table)) (l .loop .table) _ (l .loop .slot) (l .loop .at) (l .loop .separator) (l .loop .inv) (b .blanks .ensures) (f .fill-as-bytes .ensures .1) (read p ∙ ap seenParted (c .before .r2 .given .1))))  -- returns-2

@@ -1,11 +1,10 @@
 -- `sheet::part_end` meets its contract.
-use Prim.Native.Nat.{_+_, _-_, _<_}
+use Prim.Native.Nat.{_+_, _-_}
 use borrow.Author.Needs.{needs}
 use native.Mathlib.Omega.{arith}
-use native.Mathlib.Numerals.{add-one}
-use mathlib.Core.Path.{_≡_, refl, sym, ap, _∙_}
+use mathlib.Core.Path.{_≡_, sym, _∙_}
 use denote.Ref.{now}
-use lib.ListN.{length, getD, drop}
+use lib.ListN.{length, drop}
 use Rattle.sheet.specs.Parts.{partIn, partEnd}
 use Rattle.sheet.proofs.Laws.{part-begin, part-stop, part-quoted, part-more, part-done}
 use Rattle.sheet.proofs.parts.part_end.Statement.{statement}

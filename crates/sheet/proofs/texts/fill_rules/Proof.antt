@@ -9,9 +9,8 @@ use Rattle.names.specs.Read.{map}
 use Rattle.rules.specs.Tables.{asWords}
 use Rattle.rules.specs.declared.Next.{Next}
 use Rattle.rules.specs.declared.Next.the-variants.{Another, Finished}
-use Rattle.sheet.specs.Texts.{moreRules, rules}
-use Rattle.sheet.specs.Seen.{seenParted, countFrom, FilledFrom}
-use Rattle.sheet.specs.declared.Counted.the-variants.{Got, Refused}
+use Rattle.sheet.specs.Texts.{moreRules}
+use Rattle.sheet.specs.Seen.{seenParted}
 use Rattle.sheet.proofs.Turns.{sizes, step, Turned, turned, Filling, filling-begin, filling-more, filling-end, filling-refused}
 use Rattle.sheet.proofs.texts.fill_rules.Statement.{statement}
 use Rattle.sheet.proofs.texts.fill_rules.Tie as tie

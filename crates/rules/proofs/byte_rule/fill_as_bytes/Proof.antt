@@ -1,5 +1,5 @@
--- `rules::fill_rule_bytes` meets its contract: the table, with the items that are left stored behind those that are, is the table filled.
-use Prim.Native.Nat.{suc, _+_, _*_, _-_, _≤_}
+-- `rules::fill_as_bytes` meets its contract: the table, with the items that are left stored behind those that are, is the table filled.
+use Prim.Native.Nat.{_-_}
 use borrow.Author.Needs.{needs}
 use native.Mathlib.Omega.{arith}
 use mathlib.Core.Path.{_≡_, refl, sym, ap, _∙_}
@@ -17,8 +17,8 @@ use Rattle.rules.proofs.Cut.{more-alike}
 use Rattle.rules.proofs.Counts.{rest, counted-opening, counted-refused, counted-end}
 use Rattle.rules.proofs.Small.{opening-small}
 use Rattle.rules.proofs.Fills.{Turn, turn-begin, turn-more, length-kept, bytes-fit, where-ended, where-refused, where-endless, head-small}
-use Rattle.rules.proofs.byte_rule.fill_rule_bytes.Statement.{statement}
-use Rattle.rules.proofs.byte_rule.fill_rule_bytes.Tie as tie
+use Rattle.rules.proofs.byte_rule.fill_as_bytes.Statement.{statement}
+use Rattle.rules.proofs.byte_rule.fill_as_bytes.Tie as tie
 
 abbrev Inv-loop : tie.InvT-loop
 Inv-loop s separator table₀ slot wide n₀ spot₀ table n spot = Turn asBytes separator wide slot s table₀ (spot₀ .stage) (spot₀ .at) table n (spot .stage) (spot .at)
@@ -48,8 +48,8 @@ whole : (c : tie.At-loop Inv-loop μ-loop) → let b = c .before .before .before
     counted (a .separator) (now (a .s)) (a .c .at) ≡ rest (a .separator) (b .begin .result .opening .comment) (c .loop .n) (c .loop .spot .stage) (now (a .s)) (c .loop .spot .at)
 whole c = let b = c .before .before .before .before in sym (counted-opening _ _ _ (b .begin .ensures)) ∙ sym (c .loop .inv .counts)
 
-pub fill-rule-bytes-spec : {M : Type 1} → statement M
-fill-rule-bytes-spec =
+pub fill-as-bytes-spec : {M : Type 1} → statement M
+fill-as-bytes-spec =
     tie.close
     (tie.spec
     Inv-loop
@@ -59,14 +59,14 @@ fill-rule-bytes-spec =
     (λ c κs. search needs)  -- more-requires
     (λ c. search needs)  -- enum-known-more
     (λ c. omega (arith, past-one (more-alike _) (item (c .before) .is), c .before .before .before .before .loop .inv .low))  -- add-n
-    (λ c. let l = c .before .before .before .before .before in omega (arith, past-one (more-alike _) (item (c .before .before) .is), l .loop .inv .few, l .before .before .before .before .before .before .before .pre .1, l .before .before .before .before .before .before .before .pre .0))  -- add-keep
+    (λ c κs. search needs)  -- behind-requires
+    (λ c. let b = c .before in let l = b .before .before .before .before .before in omega (arith, past-one (more-alike _) (item (b .before .before) .is), l .loop .inv .few, l .before .before .before .before .before .before .before .pre .1, l .before .before .before .before .before .before .before .pre .0))  -- add-keep
     (λ c κs. search needs)  -- words-of-requires
     (λ c κs. search needs)  -- keep-requires
-    (λ c κs. search needs)  -- behind-requires
-    (λ c. omega (arith, c .behind2 .ensures .0, past-one (more-alike _) (item (c .before .before .before .before .before .before .before) .is)))  -- loop-less
-    (λ c. let l = c .before .before .before .before .before .before .before .before .before .before in
-    rw (c .behind2 .ensures .0, c .behind2 .ensures .1, c .before .before .before .keep-bytes .ensures, c .before .before .before .before .words-of .ensures)
-    (turn-more asBytes _ _ _ _ _ _ _ (l .loop .table) (l .loop .n) (l .loop .spot .stage) (l .loop .spot .at) (l .loop .inv) (item (c .before .before .before .before .before .before .before) .is)))  -- loop-again
+    (λ c. let b = c .before .before .before .before .before in omega (arith, b .behind2 .ensures .0, past-one (more-alike _) (item (b .before .before) .is)))  -- loop-less
+    (λ c. let k = c .before .before in let w = k .before in let b = w .before .before in let l = b .before .before .before .before .before in
+    rw (b .behind2 .ensures .0, b .behind2 .ensures .1, k .keep-bytes .ensures, w .words-of .ensures)
+    (turn-more asBytes _ _ _ _ _ _ _ (l .loop .table) (l .loop .n) (l .loop .spot .stage) (l .loop .spot .at) (l .loop .inv) (item (b .before .before) .is)))  -- loop-again
     (λ c. search needs)  -- enum-told
     (λ c κs. search needs)  -- ended-requires
     (λ c. search needs)  -- enum-known-r
