@@ -59,6 +59,28 @@ fn tables_of_every_size() {
 }
 
 #[test]
+fn few_and_many_records() {
+    // Up to 7 records of a short sheet, and up to 1,040 of one of over 1,024 bytes, are kept when they are counted; the others are read again.
+    for items in [1, 5, 6, 7, 8, 340, 341, 342, 343, 1038, 1039, 1040, 1041, 1365] {
+        let sheet = vec!["Mo"; items].join(",").into_bytes();
+        let mut expected = vec![Record::from_words(words([6, 1, 1, 0, 31, 31])); items + 1];
+        expected[0] = Record::from_words(words([1, 0, 0, 0, 0, items as i32]));
+        let mut table = marked(items + 2);
+        assert_eq!(read_sheet(&sheet, &mut table).map(|r| r.records().to_vec()), Ok(expected), "{items}");
+        assert_eq!(table[items + 1], mark(), "{items}");
+
+        let mut table = marked(items);
+        assert_eq!(read_sheet(&sheet, &mut table), Err(refusal(10, 0)), "{items}");
+        assert_eq!(table, marked(items), "{items}");
+
+        let mut table = marked(items + 2);
+        let slip = [&sheet[..sheet.len() - 1], b"x"].concat();
+        assert_eq!(read_sheet(&slip, &mut table), Err(refusal(3, 0)), "{items}");
+        assert_eq!(table, marked(items + 2), "{items}");
+    }
+}
+
+#[test]
 fn parts_always_have_room() {
     let longest = b"Mo;".repeat(1365);
     let longest = &longest[..4094];
