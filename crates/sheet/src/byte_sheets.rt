@@ -54,7 +54,7 @@ pub fn read_text_bytes(s: &[u8], p: usize, table: &mut [u8]) -> Answer
 {
     if p < s.len() {
         if 1024 < s.len() - p {
-            let mut many = [0u8; 66560];
+            let mut many = [0u8; 76800];
             return read_keeping_bytes(s, p, table, &mut many);
         }
     }

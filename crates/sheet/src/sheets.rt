@@ -65,7 +65,7 @@ pub fn read_text(s: &[u8], p: usize, table: &mut [i32]) -> Answer
 {
     if p < s.len() {
         if 1024 < s.len() - p {
-            let mut many = [0i32; 16640];
+            let mut many = [0i32; 19200];
             return read_keeping(s, p, table, &mut many);
         }
     }
