@@ -83,6 +83,7 @@ def sheets_by_size(size):
     rules = [rule for sheet in lines_of(COMMON) if b'"' not in sheet for rule in sheet.split(b"; ")]
     yield "common rules, joined by `; `", filled(size, rules, b"; ")
     yield "the shortest rules, `Mo;Mo`", filled(size, [b"Mo"], b";")
+    yield "rules of six months, `Jan,Jan,..`", filled(size, [b",".join([b"Jan"] * 6)], b";")  # as many records in 24 bytes as are read once
     yield "one rule: times", b"Mo-Su " + filled(size - 6, [b"08:00-12:00", b"13:00-17:30"], b",")
     yield "one rule: dates", filled(size, [b"Dec 24-26", b"2025 Jan 1", b"easter +1 day"], b",")
     yield "one rule: marks of a weekday", (b"Mo[" + filled(size - 4, [b"1", b"2", b"3-5", b"-1"], b",").rstrip() + b"]").ljust(size)
