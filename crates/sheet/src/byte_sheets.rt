@@ -54,11 +54,11 @@ pub fn read_text_bytes(s: &[u8], p: usize, table: &mut [u8]) -> Answer
 {
     if p < s.len() {
         if 1024 < s.len() - p {
-            let mut many = [0u8; 76800];
+            let mut many = [0u8; 76800]; // 1,200 records
             return read_keeping_bytes(s, p, table, &mut many);
         }
     }
-    let mut few = [0u8; 448];
+    let mut few = [0u8; 448]; // 7 records
     read_keeping_bytes(s, p, table, &mut few)
 }
 

@@ -65,11 +65,11 @@ pub fn read_text(s: &[u8], p: usize, table: &mut [i32]) -> Answer
 {
     if p < s.len() {
         if 1024 < s.len() - p {
-            let mut many = [0i32; 19200];
+            let mut many = [0i32; 19200]; // 1,200 records
             return read_keeping(s, p, table, &mut many);
         }
     }
-    let mut few = [0i32; 112];
+    let mut few = [0i32; 112]; // 7 records
     read_keeping(s, p, table, &mut few)
 }
 
