@@ -7,7 +7,7 @@ use lib.ListN.{length, replicate, drop}
 use Rattle.names.specs.Tests.{if_then_else_}
 use Rattle.names.specs.Names.{Row, names, spelledSo}
 
--- a capital as its small letter, and no other byte as another letter
+-- with the bit 32: a capital becomes its small letter, and nothing but a letter becomes a letter
 unfoldable pub fold : ℕ → ℕ
 fold b = bitOr b 32
 

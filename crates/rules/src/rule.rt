@@ -1,4 +1,4 @@
-// One rule: the loops over its items that count it and that fill a table.
+// One rule: the loop over its items that counts it and fills a table.
 ghost use Prim.Native.Nat.{_≤_, _*_};
 ghost use mathlib.Core.Path.{_≡_};
 ghost use lib.ListN.{length};

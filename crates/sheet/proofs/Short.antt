@@ -14,7 +14,8 @@ use Rattle.names.specs.Names.{Row, Word, names, spelledSo, lower, letter, first
 use Rattle.names.specs.Spellings.{allSmall, written, spelt, warns}
 use Rattle.names.specs.declared.Spelling.the-variants.{Capital}
 use Rattle.names.proofs.Laws.{one-is, within-below, within-range}
-use Rattle.sheet.specs.Warnings.{isLetter, shortCapital, calls}
+use Rattle.sheet.specs.Warnings.{isLetter, calls}
+use Rattle.sheet.specs.Seen.{shortCapital}
 
 -- two letters that call for no warning with a capital, or a letter more
 quiet : ℕ → List ℕ → Bool

@@ -16,7 +16,8 @@ use Rattle.names.specs.Names.{Word, word}
 use Rattle.names.specs.Spellings.{spelt, warns}
 use Rattle.names.proofs.Local.{moved, keep, stop-end}
 use Rattle.names.proofs.NameCut.{word-local}
-use Rattle.sheet.specs.Warnings.{isLetter, calls, warned, warningsIn, SameBehind}
+use Rattle.sheet.specs.Warnings.{isLetter, calls, warned, warningsIn}
+use Rattle.sheet.specs.Seen.{SameBehind}
 
 -- a name of a text is the name of its rest, moved
 word-from : (s : List ℕ) (i : ℕ) → i ≤ length s → word s i ≡ moved keep i (word (drop i s) 0)

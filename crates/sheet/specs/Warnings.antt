@@ -1,9 +1,8 @@
 -- Warnings: a pass of its own over a text that is accepted.
-use Prim.Native.Nat.{ℕ, _+_, _≤_}
+use Prim.Native.Nat.{ℕ, _+_}
 use mathlib.Core.List.{List, [], _∷_}
-use mathlib.Core.Bool.{Bool, true, false, _&&_, _||_, not}
-use mathlib.Core.Path.{_≡_}
-use lib.ListN.{getD, take, drop}
+use mathlib.Core.Bool.{Bool, false, _&&_, _||_, not}
+use lib.ListN.{take}
 use Rattle.names.specs.Tests.{if_then_else_, within}
 use Rattle.names.specs.Quotes.{flips}
 use Rattle.names.specs.Read.{Read, got, none, refused}
@@ -13,10 +12,6 @@ use Rattle.names.specs.Spellings.{spelt, warns}
 -- a letter
 unfoldable pub isLetter : ℕ → Bool
 isLetter b = within 65 90 b || within 97 122 b
-
--- a capital, a small letter and no letter behind them
-unfoldable pub shortCapital : List ℕ → Bool
-shortCapital s = within 65 90 (getD s 0 0) && within 97 122 (getD s 1 0) && not (isLetter (getD s 2 0))
 
 -- whether the name that was found at the start of a text calls for a warning
 abbrev pub calls : List ℕ → Read Word → Bool
@@ -36,7 +31,3 @@ warningsIn inside letter (b ∷ s) = (if warned inside letter (b ∷ s) b then 1
 -- the warnings of a text
 abbrev pub warningsOf : List ℕ → ℕ
 warningsOf = warningsIn false false
-
--- place j is not before place i, and behind a letter the text has as many warnings from i on as behind none from j on
-abbrev pub SameBehind : List ℕ → ℕ → ℕ → Type 0
-SameBehind s i j = (i ≤ j) × ((inside : Bool) → warningsIn inside true (drop i s) ≡ warningsIn inside false (drop j s))

@@ -5,6 +5,7 @@ ghost use mathlib.Core.Path.{_≡_};
 ghost use lib.ListN.{length, drop};
 ghost use Rattle.names.specs.Names.{word};
 ghost use Rattle.sheet.specs.Warnings as warnings;
+ghost use Rattle.sheet.specs.Seen.{shortCapital, SameBehind};
 use crate::parts::flips;
 use names::Cursor;
 use names::Word;
@@ -26,7 +27,7 @@ fn is_letter(b: u8) -> bool
 // A capital, a small letter and no letter behind them: no name that is written so calls for a warning.
 fn short_capital(s: &[u8], at: usize) -> bool
     requires { ⌜ at < length (now s) ⌝ }
-    ensures { λ r. ⌜ r ≡ warnings.shortCapital (drop at (now (s .entry))) ⌝ }
+    ensures { λ r. ⌜ r ≡ shortCapital (drop at (now (s .entry))) ⌝ }
 {
     if within(65, 90, Cursor { at }.byte(s) as u32) {
         if within(97, 122, Cursor { at: at + 1 }.byte(s) as u32) {
@@ -67,7 +68,7 @@ fn warned(s: &[u8], at: usize, inside: bool) -> bool
 
 // The place behind letters, as many as there are.
 fn behind_letters(s: &[u8], at: usize) -> usize
-    ensures { λ r. ⌜ warnings.SameBehind (now (s .entry)) at r ⌝ }
+    ensures { λ r. ⌜ SameBehind (now (s .entry)) at r ⌝ }
 {
     let mut i = at;
     while i < s.len() {

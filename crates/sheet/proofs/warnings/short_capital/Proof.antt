@@ -9,7 +9,8 @@ use denote.Ref.{now}
 use lib.ListN.{getD, drop}
 use lib.Seq.{getD-drop}
 use Rattle.names.specs.Tests.{within}
-use Rattle.sheet.specs.Warnings.{isLetter, shortCapital}
+use Rattle.sheet.specs.Warnings.{isLetter}
+use Rattle.sheet.specs.Seen.{shortCapital}
 use Rattle.sheet.proofs.warnings.short_capital.Statement.{statement}
 use Rattle.sheet.proofs.warnings.short_capital.Tie as tie
 
