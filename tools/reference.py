@@ -9,6 +9,7 @@
 
 Shapes are regular expressions over bytes: every shape is tried and the longest that stands complete is taken. Needs Python 3.11.
 """
+import calendar
 import re
 import sys
 
@@ -114,6 +115,23 @@ def date_of(g, tag):
     return [2, y, m, WD[g[tag + "_wd"].lower()], k]
 
 
+A_LEAP_YEAR = 2000  # a yearless February has 29 days
+
+
+def month_after(y, m):
+    """the next month; without a year (0) months go round"""
+    return (y, m + 1) if m < 12 else (y + 1 if y else 0, 1)
+
+
+def bare_end(y, m, d, e):
+    """the year and month of the first day with number e, by the calendar, that is not before day d of month m, compared as numbers"""
+    if e < d:
+        y, m = month_after(y, m)
+    while calendar.monthrange(y or A_LEAP_YEAR, m)[1] < e:
+        y, m = month_after(y, m)
+    return [y, m]
+
+
 def day_time(text):
     h, m = minutes(text)
     need(4, m <= 59 and (h <= 23 or (h, m) == (24, 0)))
@@ -157,12 +175,8 @@ def meaning(kind, g):
             e, to = int(g["bare"]), offset_of(g, "to")
             need(4, 1 <= e <= 31)
             need(9, start[0] != 3)
-            y, m = start[1], start[2]
-            if start[0] == 1 and e < start[3]:
-                m += 1
-                if m == 13:
-                    m, y = 1, y + 1 if y else 0
-            return [4] + start + so + [1, y, m, e, 0] + to
+            ends = bare_end(*start[1:4], e) if start[0] == 1 else start[1:3]
+            return [4] + start + so + [1] + ends + [e, 0] + to
         if any(g.get("t_" + x) for x in "emy"):
             return [4] + start + so + date_of(g, "t") + offset_of(g, "to")
         return [4] + start + so + start + so
