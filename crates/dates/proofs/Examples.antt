@@ -1,4 +1,4 @@
--- Worked examples of documents 01 and 03, as the definitions compute them.
+-- Worked examples of documents 01, 03 and 04 (section 8), as the definitions compute them.
 use Prim.Native.Nat.{ℕ}
 use Prim.Native.String.{String}
 use mathlib.Core.Bool.{true, false}
@@ -10,6 +10,7 @@ use Rattle.names.specs.Chain.{chainIn, chain, many, skip}
 use Rattle.names.specs.Texts.{bytes, byte, allOf, blanks, blank}
 use Rattle.names.specs.Numbers.{isDigit, digit, upTo, digits, clockBehind, number}
 use Rattle.names.specs.Names.{names, spelledSo, lower, letter, firstOf, word, name}
+use Rattle.calendar.specs.Calendar.{leap, lastOfFebruary, hasThirty, lastOf, isDay}
 use Rattle.records.specs.Items.{signed}
 use Rattle.records.specs.declared.Signed.{Signed}
 use Rattle.records.specs.declared.Day.the-variants.{Fixed, Weekday, Easter}
@@ -23,7 +24,7 @@ use Rattle.dates.specs.Years.{yearBehind, yearShape, yearMeaning, yearIt
 use Rattle.dates.specs.Weeks.{weekShape, weekMeaning, weekItem}
 use Rattle.dates.specs.Dates.{optionalYear, backNth, frontNth, nth, weekdayOf, dayOf, dayBehind, date}
 use Rattle.dates.specs.Ends.{untilDate, bareDay, until, endShape, datesBehind}
-use Rattle.dates.specs.Meanings.{dateOf, noOffset, nextYear, bareEnd, lastDay, dateMeaning, monthMeaning}
+use Rattle.dates.specs.Meanings.{dateOf, noOffset, nextYear, nextMonth, monthFrom, firstWith, bareEnd, lastDay, dateMeaning, monthMeaning}
 use Rattle.dates.specs.MonthDays.{lastMonth, monthBehind, monthItemBehind, dateItemBehind, monthDayBehind, monthDayItem}
 
 -- years and weeks from first to last, each step'th
@@ -104,13 +105,22 @@ moved start before end behind = Dates (record { start = start; before = before; 
 dates : Date → Date → Item
 dates start end = moved start noOffset end noOffset
 
--- the same for month days: an equal day stays and only January moves the year; 4 before 9; a sign and a weekday are the offset; the written day is compared; after a weekday date the month and year stay
+-- the same for month days: an equal day stays and only January moves the year; the end is a day of the calendar; 4 before 9; a sign and a weekday are the offset; the written day is compared; after a weekday date the month and year stay
 monthDayTexts : List (String × (ℕ × Read Item))
 monthDayTexts =
     ("2020 Dec 25-05", (0, got (dates (on 2020 12 25) (on 2021 1 5)) 14))
     ∷ ("Dec 25-25", (0, got (dates (on 0 12 25) (on 0 12 25)) 9))
     ∷ ("9999 Dec 31-01", (0, got (dates (on 9999 12 31) (on 10000 1 1)) 14))
-    ∷ ("Jan 31-30", (0, got (dates (on 0 1 31) (on 0 2 30)) 9))
+    ∷ ("Jan 31-30", (0, got (dates (on 0 1 31) (on 0 3 30)) 9))
+    ∷ ("2021 Jan 30-29", (0, got (dates (on 2021 1 30) (on 2021 3 29)) 14))
+    ∷ ("2024 Jan 30-29", (0, got (dates (on 2024 1 30) (on 2024 2 29)) 14))
+    ∷ ("1900 Jan 30-29", (0, got (dates (on 1900 1 30) (on 1900 3 29)) 14))
+    ∷ ("2000 Jan 30-29", (0, got (dates (on 2000 1 30) (on 2000 2 29)) 14))
+    ∷ ("Jan 30-29", (0, got (dates (on 0 1 30) (on 0 2 29)) 9))
+    ∷ ("Apr 5-31", (0, got (dates (on 0 4 5) (on 0 5 31)) 8))
+    ∷ ("Feb 30-30", (0, got (dates (on 0 2 30) (on 0 3 30)) 9))
+    ∷ ("2021 Feb 30-1", (0, got (dates (on 2021 2 30) (on 2021 3 1)) 13))
+    ∷ ("Feb Mo[1]-30", (0, got (dates (dateOf 0 (Weekday 2 1 (signed false 1))) (on 0 2 30)) 12))
     ∷ ("easter-05", (0, refused 9 0))
     ∷ ("Jan;easter-05", (4, refused 9 4))
     ∷ ("easter-32", (0, refused 4 0))
@@ -123,5 +133,5 @@ monthDayTexts =
     ∷ []
 
 month-days-right : map (λ e. monthDayItem (bytes (e .0)) (e .1 .0)) monthDayTexts ≡ map (λ e. e .1 .1) monthDayTexts
-unfolding monthDayTexts months on by moved dates monthDayItem monthDayBehind dateItemBehind monthItemBehind monthBehind lastMonth monthMeaning dateMeaning lastDay bareEnd nextYear datesBehind endShape until bareDay untilDate date dayBehind dayOf weekdayOf nth frontNth backNth optionalYear offset wdayOffset anyDays dayOffset plusOrMinus name word firstOf names allOf letter spelledSo lower number digits upTo digit isDigit within clockBehind skip many chain chainIn blank blanks byte one ahead
+unfolding monthDayTexts months on by moved dates monthDayItem monthDayBehind dateItemBehind monthItemBehind monthBehind lastMonth monthMeaning dateMeaning lastDay bareEnd firstWith monthFrom nextMonth nextYear isDay lastOf lastOfFebruary hasThirty leap datesBehind endShape until bareDay untilDate date dayBehind dayOf weekdayOf nth frontNth backNth optionalYear offset wdayOffset anyDays dayOffset plusOrMinus name word firstOf names allOf letter spelledSo lower number digits upTo digit isDigit within clockBehind skip many chain chainIn blank blanks byte one ahead
 month-days-right = refl

@@ -2,6 +2,5 @@ pub mod Laws
 pub mod Good
 pub mod Meant
 pub mod Cut
-pub mod BareDay
 pub mod Apart
 pub mod Examples

@@ -3,6 +3,7 @@ use Prim.Native.Nat.{ℕ, suc}
 use mathlib.Core.Bool.{Bool, true, false, _&&_, not}
 use lib.Dec.{leb, ltb, eqb}
 use Rattle.names.specs.Tests.{if_then_else_, within}
+use Rattle.calendar.specs.Calendar.{isDay}
 use Rattle.records.specs.Items.{signed}
 use Rattle.records.specs.declared.Day.{Day}
 use Rattle.records.specs.declared.Day.the-variants.{Fixed, Weekday, Easter}
@@ -16,6 +17,7 @@ use Rattle.days.specs.declared.RawOffset.{RawOffset}
 use Rattle.dates.specs.Years.{goodYear}
 use Rattle.dates.specs.declared.Year.{Year}
 use Rattle.dates.specs.declared.Year.the-variants.{Absent, Given}
+use Rattle.dates.specs.declared.YearMonth.{YearMonth}
 use Rattle.dates.specs.declared.RawMonths.{RawMonths}
 use Rattle.dates.specs.declared.RawDate.{RawDate}
 use Rattle.dates.specs.declared.RawEnd.{RawEnd}
@@ -73,12 +75,29 @@ noOffset = record { wday = signed false 0; days = signed false 0 }
 unfoldable pub nextYear : ℕ → ℕ
 nextYear y = if eqb y 0 then 0 else suc y
 
--- bare end day e after day d of month m: same month and year if not less than d; else the next month; December gives January, a present year plus 1
-unfoldable pub bareEnd : ℕ → ℕ → ℕ → ℕ → Date
-bareEnd y m d e =
-    if leb d e then dateOf y (Fixed m e)
-    else if ltb m 12 then dateOf y (Fixed (suc m) e)
-    else dateOf (nextYear y) (Fixed 1 e)
+-- a month of a year, or of none (0)
+abbrev pub yearMonth : ℕ → ℕ → YearMonth
+yearMonth y m = record { year = y; month = m }
+
+-- the next month: December gives January, a present year plus 1. Without a year, months go round
+unfoldable pub nextMonth : YearMonth → YearMonth
+nextMonth a = if ltb a.month 12 then yearMonth a.year (suc a.month) else yearMonth (nextYear a.year) 1
+
+-- the first month in which day e does not come before day d of month a, as numbers: month a, or the next
+unfoldable pub monthFrom : YearMonth → ℕ → ℕ → YearMonth
+monthFrom a d e = if leb d e then a else nextMonth a
+
+-- the first month with a day e by the calendar, of month a and those after it: of two months in a row, one has 31 days
+unfoldable pub firstWith : ℕ → YearMonth → YearMonth
+firstWith e a = if isDay a.year a.month e then a else nextMonth a
+
+-- day e of a month
+abbrev pub dayIn : ℕ → YearMonth → Date
+dayIn e a = dateOf a.year (Fixed a.month e)
+
+-- bare end day e after day d of month a: the first day of the calendar with that number, not before the start
+unfoldable pub bareEnd : YearMonth → ℕ → ℕ → Date
+bareEnd a d e = dayIn e (firstWith e (monthFrom a d e))
 
 -- `+`: 31 December, of 9999 if the start has a year, else yearless
 unfoldable pub lastDay : ℕ → Date
@@ -88,9 +107,9 @@ lastDay y = dateOf (if eqb y 0 then 0 else 9999) (Fixed 12 31)
 abbrev pub dates : Date → DateOffset → Date → DateOffset → Meant
 dates d o e p = Is (Dates (record { start = d; before = o; end = e; behind = p }))
 
--- a bare day after a start of each form: after a weekday date its month and year, after easter refused
+-- a bare day after a start of each form: after a fixed date by the calendar, after a weekday date its month and year, after easter refused
 abbrev pub bare : Date → DateOffset → ℕ → DateOffset → Day → Meant
-bare s o e p (Fixed m d) = dates s o (bareEnd s.year m d e) p
+bare s o e p (Fixed m d) = dates s o (bareEnd (yearMonth s.year m) d e) p
 bare s o e p (Weekday m w n) = dates s o (dateOf s.year (Fixed m e)) p
 bare s o e p Easter = Refused 9
 

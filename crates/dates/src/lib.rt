@@ -24,6 +24,12 @@ pub enum Year {
     Given(u16),
 }
 
+// A month of a year, or of none (0).
+pub struct YearMonth {
+    pub year: u16,
+    pub month: u8,
+}
+
 // Years or weeks as they are read.
 pub struct RawRange {
     pub first: u16,

@@ -9,6 +9,7 @@ use crate::RawDates;
 use crate::RawEnd;
 use crate::RawMonths;
 use crate::Year;
+use crate::YearMonth;
 use crate::bare::bare_end;
 use crate::bare::last_day;
 use days::RawOffset;
@@ -142,7 +143,7 @@ fn dates_of(start: Date, before: DateOffset, end: Date, behind: DateOffset) -> M
     }))
 }
 
-// A bare day after a start of each form: after a weekday date its month and year, after easter refused.
+// A bare day after a start of each form: after a fixed date by the calendar, after a weekday date its month and year, after easter refused.
 fn bare(start: Date, before: DateOffset, e: u8, behind: DateOffset) -> Meant
     requires { ⌜ start .year ≤ 9999 ⌝ }
     ensures { λ r. ⌜ r ≡ meanings.bare start before e behind (start .day) ⌝ }
@@ -151,7 +152,7 @@ fn bare(start: Date, before: DateOffset, e: u8, behind: DateOffset) -> Meant
     let day = start.day;
     match day {
         Day::Fixed(m, d) => {
-            let end = bare_end(year, m, d, e);
+            let end = bare_end(YearMonth { year, month: m }, d, e);
             dates_of(start, before, end, behind)
         }
         Day::Weekday(m, _, _) => {
