@@ -44,9 +44,17 @@ module _ (y : ℕ) where
   after-thirty (inr (inr (inl e))) = rw e
   after-thirty (inr (inr (inr e))) = rw e
 
+  pub january : lastOf y 1 ≡ 31
+  unfolding lastOf hasThirty
+  january = refl
+
   after-february : lastOf y 3 ≡ 31
   unfolding lastOf hasThirty
   after-february = refl
+
+  pub december : lastOf y 12 ≡ 31
+  unfolding lastOf hasThirty
+  december = refl
 
   -- of two months in a row, one has 31 days
   pub one-of-two : (m : ℕ) → lastOf y m < 31 → lastOf y (suc m) ≡ 31

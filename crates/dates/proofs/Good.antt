@@ -41,8 +41,9 @@ from-small a d e h = go (leb d e)
     go true = omega arith
     go false = omega (arith, next-small a)
 
--- the start's year is small, its offset is good and so is the end
+-- the start's year is good, and so small; its offset is good and so is the end
 pub record Good (r : RawDates) : Type 0 where
+  pub years : goodYears (r .date .year) ≡ true
   pub year : yearOf (r .date .year) ≤ 9999
   pub before : goodDays (r .offset .days) ≡ true
   pub end : goodEnd (r .end) ≡ true
@@ -52,7 +53,7 @@ dates-good r h =
     let p = and-eq-true-iff (goodDate (r .date) && goodDays (r .offset .days)) (goodEnd (r .end)) .0 h in
     let q = and-eq-true-iff (goodDate (r .date)) (goodDays (r .offset .days)) .0 (p .0) in
     let d = and-eq-true-iff (goodYears (r .date .year)) (goodDay (r .date .day)) .0 (q .0) in
-    record { year = year-small (r .date .year) (d .0); before = q .1; end = p .1 }
+    record { years = d .0; year = year-small (r .date .year) (d .0); before = q .1; end = p .1 }
 
 -- the offset of an end that is there is good
 pub until-good : {e : RawEnd} {d : RawDate} {o : RawOffset} → goodEnd e ≡ true → e ≡ Until d o → goodDays (o .days) ≡ true

@@ -2,5 +2,7 @@ pub mod Laws
 pub mod Good
 pub mod Meant
 pub mod Cut
+pub mod BareDay
+pub mod BareItems
 pub mod Apart
 pub mod Examples

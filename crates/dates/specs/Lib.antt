@@ -6,3 +6,4 @@ pub mod Ends
 pub mod Meanings
 pub mod MonthDays
 pub mod Seen
+pub mod BareDays

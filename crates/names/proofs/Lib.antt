@@ -1,3 +1,4 @@
+pub mod Found
 pub mod Local
 pub mod Ended
 pub mod Fuel

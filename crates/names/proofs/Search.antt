@@ -1,6 +1,6 @@
 -- The search for the longest name: only names with the first two letters that stand there are tried, letter by letter.
 use Prim.Native.Nat.{ℕ, suc, _+_, _*_, _/_, _%_, _≤_, _<_}
-use mathlib.Core.Bool.{Bool, true, false, true≢false}
+use mathlib.Core.Bool.{Bool, true, false, true≢false, _&&_, and-eq-true-iff}
 use mathlib.Core.List.{List, [], _∷_}
 use mathlib.Core.Logic.{_↔_}
 use mathlib.Core.Path.{_≡_, refl, sym, ap, _∙_}
@@ -9,14 +9,15 @@ use native.Mathlib.Nat.{add-zero, add-assoc}
 use native.Mathlib.Numerals.{add-one}
 use native.Mathlib.Decide.{decLt}
 use borrow.Author.Tests.{eq-eqb, ne-eqb, eqb-true, eqb-false, leb-true}
-use lib.Dec.{eqb}
+use lib.Dec.{eqb, leb}
 use lib.ListN.{length, getD, drop, drop-of-length-le}
 use lib.Seq.{drop-cons}
 use Rattle.names.specs.Tests.{if_then_else_, within}
 use Rattle.names.specs.Read.{Read, got, none, refused, Reader, follow, nothing, pure, one}
 use Rattle.names.specs.Texts.{allOf}
-use Rattle.names.specs.Names.{Row, Word, names, spelledSo, lower, letter, firstOf, word}
+use Rattle.names.specs.Names.{Row, Word, month, names, spelledSo, lower, letter, firstOf, word}
 use Rattle.names.specs.Table.{fold, compared, key, keyOf, beginning, told, packed, rowOf, padded}
+use Rattle.names.proofs.Found as value
 use Rattle.names.proofs.Laws.{one-got, one-other, one-past, inside}
 use Rattle.names.proofs.Folds.{fold-is, fold-small, tells}
 use Rattle.names.proofs.Rows.{nobody, Letter, plain, opens, all-good, names-good, Good, good-split, Found, name-found, row-at, row-end, letter-some, digits}
@@ -114,20 +115,34 @@ module _ (s : List ℕ) (i : ℕ) where
     unfolding word
     no-word = none-first names names-good
 
--- the value of a name is at most 12
-value-small : (rs : List Row) → all-good rs ≡ true → (s : List ℕ) (i : ℕ) {v : Word} {j : ℕ} → firstOf rs s i ≡ got v j → v .1 ≤ 12
-unfolding firstOf
-value-small [] g s i {v} {j} e = absurd (let z : _≡_ {A = ℕ} 0 1 = cc in omega arith)
-value-small (r ∷ rs) g s i {v} {j} e = go (allOf (letter (r .1 .0)) (r .0) s i) (λ q. value-small rs (good-split r rs g .1) s i q) e
-  where
-    go : (x : Read (Unit {0})) → (firstOf rs s i ≡ got v j → v .1 ≤ 12) → follow s i x (λ _. pure (r .1)) (firstOf rs) ≡ got v j → v .1 ≤ 12
-    go (got a l) h q = let z : r .1 ≡ v = cc in rw (sym z) (good-split r rs g .0 .value)
-    go none h q = h q
-    go (refused k p) h q = absurd (let z : _≡_ {A = ℕ} 0 1 = cc in omega arith)
+-- a test that each of these names passes
+passed : (Word → Bool) → List Row → Bool
+passed test [] = true
+passed test (r ∷ rs) = test (r .1) && passed test rs
 
+-- the name found passes it
+found-passes : (test : Word → Bool) (rs : List Row) → passed test rs ≡ true → (s : List ℕ) (i : ℕ) → value.Found (λ v. test v ≡ true) (firstOf rs s i)
+unfolding firstOf passed
+found-passes test [] h s i = tt
+found-passes test (r ∷ rs) h s i = let p = and-eq-true-iff (test (r .1)) (passed test rs) .0 h in go (allOf (letter (r .1 .0)) (r .0) s i) (p .0) (found-passes test rs (p .1) s i)
+  where
+    go : (x : Read (Unit {0})) → test (r .1) ≡ true → value.Found (λ v. test v ≡ true) (firstOf rs s i) → value.Found (λ v. test v ≡ true) (follow s i x (λ _. pure (r .1)) (firstOf rs))
+    go (got a j) p q = p
+    go none p q = q
+    go (refused k l) p q = tt
+
+-- the value of a name is at most 12
 pub word-small : (s : List ℕ) (i : ℕ) {v : Word} {j : ℕ} → word s i ≡ got v j → v .1 ≤ 12
-unfolding word
-word-small s i e = value-small names names-good s i e
+unfolding word passed names
+word-small s i {v} e = leb-true (v .1) 12 (rw e at (found-passes (λ w. leb (w .1) 12) names refl s i))
+
+-- a month is from 1 to 12
+abbrev pub monthRange : Word → Bool
+monthRange v = if eqb (v .0) month then within 1 12 (v .1) else true
+
+pub word-month : value.Finds (λ v. monthRange v ≡ true) word
+unfolding word passed names within
+word-month = record { found = found-passes monthRange names refl }
 
 -- those of the names that can stand here
 abbrev pub nearby : List ℕ → ℕ → List Row
