@@ -1,5 +1,5 @@
 #!/usr/bin/env python3
-"""Holds the second reader to what the documents say in words: document 01's sheets, and the words and places that the readings name beside an answer.
+"""Holds the second reader to what the documents say in words: document 01's sheets, and the words and places that the readings (03, and section 8 of 04) name beside an answer.
 
     check_documents.py [DOCUMENT-01]    writes each that is read otherwise, and how many there are; with the document, also each sheet of its list that is missing here.
 """
@@ -14,7 +14,7 @@ DOCUMENT_01 = {
     "2020 Dec 25-05": {(1, 9): 2021, (1, 10): 1, (1, 11): 5},
     "Dec 25-25": {(1, 9): 0, (1, 10): 12, (1, 11): 25},
     "9999 Dec 31-01": {(1, 9): 10000, (1, 10): 1, (1, 11): 1},
-    "Jan 31-30": {(1, 10): 2, (1, 11): 30},
+    "Jan 31-30": {(1, 10): 3, (1, 11): 30},  # by Ask 8: document 01 has 2, 30
     "easter-05": (9, 0),
     "10:00": (8, 0),
     "10:00-12:00/24:00": (4, 0),
@@ -68,6 +68,21 @@ READINGS = {
     "10:00-12:00+": {(1, 4): 720, (1, 6): 1},
     "sunrise+": {(1, 3): 0, (1, 4): 1440, (1, 6): 1},
     "Mo;x": (3, 3),
+    "2021 Jan 30-29": {(1, 9): 2021, (1, 10): 3, (1, 11): 29},
+    "2024 Jan 30-29": {(1, 9): 2024, (1, 10): 2, (1, 11): 29},
+    "Feb Mo[1]-30": {(1, 1): 2, (1, 8): 1, (1, 9): 0, (1, 10): 2, (1, 11): 30},
+    "Feb 30": {(1, 3): 2, (1, 4): 30, (1, 10): 2, (1, 11): 30},
+    "Jan 31-Feb 30": {(1, 9): 0, (1, 10): 2, (1, 11): 30},
+    "2021 Feb 30-1": {(1, 3): 2, (1, 4): 30, (1, 9): 2021, (1, 10): 3, (1, 11): 1},
+    "Feb 30-30": {(1, 3): 2, (1, 4): 30, (1, 9): 0, (1, 10): 3, (1, 11): 30},
+    "2021 Feb 29-29": {(1, 3): 2, (1, 4): 29, (1, 9): 2021, (1, 10): 3, (1, 11): 29},
+    "Apr 5-31": {(1, 9): 0, (1, 10): 5, (1, 11): 31},
+    "Feb 5-30": {(1, 9): 0, (1, 10): 3, (1, 11): 30},
+    "Jan 31 -2 days-30": {(1, 7): -2, (1, 9): 0, (1, 10): 3, (1, 11): 30},
+    "1900 Jan 30-29": {(1, 9): 1900, (1, 10): 3, (1, 11): 29},
+    "2000 Jan 30-29": {(1, 9): 2000, (1, 10): 2, (1, 11): 29},
+    "2021-2021 Jan 30-29": {(1, 0): 2, (2, 3): 1, (2, 9): 0, (2, 10): 2, (2, 11): 29},
+    "9999 Dec 31-30": {(1, 9): 10000, (1, 10): 1, (1, 11): 30},
 }
 # sheet, place, words: number, place, records, next, last
 PARTS = {

@@ -86,6 +86,8 @@ DAYS = "Mo Tu We Th Fr Sa Su".split()
 
 def bare_days():
     out = [f"{y}{m} 15-{d}" for y in ("", "2020 ", "9999 ") for m in MONTHS for d in (14, 15, 16)]
+    out += [f"{y}{m} {d}-{e}" for y in ("", "2023 ") for m in MONTHS for d in (5, 31) for e in (29, 30, 31)]
+    out += [f"{y} {m} {d}-{e}" for y in (1900, 2000, 2024) for m in ("Jan", "Feb") for d in (28, 29, 30, 31) for e in (28, 29, 30, 31)]
     out += [f"{y}{m} We[-2]-{d}" for y in ("", "9999 ") for m in ("Jan", "Dec") for d in (1, 31)]
     out += [s + o for s in ("2020 Dec 25-5", "Jan 31 -2 days-30", "Dec 31+Su-1") for o in ("", "+Mo", "-Su", " +3 days", "-Tu -4 days", " +3 day")]
     return [line(s) for s in out]

@@ -98,6 +98,15 @@ builders.need = lambda number, good, need=builders.need: need(number, number == 
 plain = reference()
 
 
+# where does the Rust put a bare end day? In the start's month or the next, whether that has such a day or not
+def bare_end_of_rust(y, m, d, e):
+    return [y, m] if d <= e else list(plain.month_after(y, m))
+
+
+by_numbers = reference()
+by_numbers.bare_end = builders.bare_end = bare_end_of_rust
+
+
 def as_rust(s, records, listed):
     """our records as the Rust has them"""
     out, i = [], 0
@@ -121,6 +130,17 @@ def more_room(reader, s):
     return number, [reader.line_of(r).encode() for r in records], reader.warnings(s) if number == 0 else 0
 
 
+def with_ends(s, records, reader, other):
+    """records as `reader` has them, with the year and month of a bare day's end (words 9 and 10) as `other` has them"""
+    out = []
+    for r, a, b in itertools.zip_longest(records, more_room(reader, s)[1], more_room(other, s)[1], fillvalue=b""):
+        words, before, after = r.split(), a.split()[9:11], b.split()[9:11]
+        if before != after and words[9:11] == before:
+            words[9:11] = after
+        out.append(b" ".join(words))
+    return out
+
+
 def expected(s, ours, digits, listed):
     """what the Rust is to answer, and its warnings, from our answer; names the listed differences on the way"""
     number, records, warnings = ours
@@ -129,7 +149,10 @@ def expected(s, ours, digits, listed):
         if len(records) > 512:
             listed.append("more than 512 records")
     if number == 0:
-        return as_rust(s, records, listed), warnings
+        rusts = with_ends(s, records, plain, by_numbers)
+        if rusts != records:
+            listed.append("a bare end day that the month lacks")
+        return as_rust(s, rusts, listed), warnings
     if number > 3 and shapes_only.sheet(s)[0] == 3:  # the Rust asks for all shapes first
         listed.append("shapes first")
         return 3, 0

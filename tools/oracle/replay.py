@@ -1,5 +1,6 @@
 #!/usr/bin/env python3
 """Writes what crates/cases is to write: for the sheets of sample.txt the Rust's answers of sample.out, for every other case that of tools/reference.py.
+A bare end day that the Rust puts into a month that lacks it is put where it is here (docs/DIFFERENCES.md, 6).
 
     python3 tools/oracle/replay.py crates/cases/stdin > crates/cases/stdout
 
@@ -11,23 +12,27 @@ import sys
 
 HERE = os.path.dirname(os.path.abspath(__file__))
 sys.path.insert(0, os.path.join(HERE, ".."))
+import compare
 import make_cases
 import reference
 
 
 def sample():
-    """each case of the sample, and the lines of its answer"""
+    """each case of the sample, and the lines of its answer; how many of them have an end moved"""
     lines = iter(open(os.path.join(HERE, "sample.out"), "rb").read().split(b"\n")[1:-1])
-    answers = {}
+    answers, moved = {}, 0
     for raw in make_cases.sample():
         head = next(lines)
-        answers[raw] = [head, *itertools.islice(lines, int(head.split()[2]))]
+        records = list(itertools.islice(lines, int(head.split()[2])))
+        ours = compare.with_ends(raw[6:], records, compare.by_numbers, compare.plain)
+        moved += ours != records
+        answers[raw] = [head, *ours]
     assert next(lines, None) is None, "more answers than sheets"
-    return answers
+    return answers, moved
 
 
 def main():
-    answers, wrong = sample(), 0
+    (answers, moved), wrong = sample(), 0
     waiting = set(answers)
     for raw in open(sys.argv[1], "rb").read().split(b"\n")[:-1]:
         said = [line.encode("latin-1") for line in reference.case(raw)]
@@ -38,7 +43,7 @@ def main():
         sys.stdout.buffer.write(b"".join(line + b"\n" for line in [raw, *answers.get(raw, said)]))
     for raw in waiting:
         sys.stderr.write(f"{raw}: no case\n")
-    sys.stderr.write(f"{len(answers)} answers of the Rust replayed; tools/reference.py says otherwise for {wrong}\n")
+    sys.stderr.write(f"{len(answers)} answers of the Rust replayed, {moved} of them with a bare end day moved; tools/reference.py says otherwise for {wrong}\n")
     sys.exit(wrong + len(waiting) > 0)
 
 

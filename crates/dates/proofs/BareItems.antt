@@ -71,7 +71,7 @@ date-item s p y day j h = both s p _ _ _ (optionalYear s p) (λ z i e. both s i 
 -- a date item that is accepted is good, and it ends as `bareEnd` says
 pub bare-days : BareDays
 unfolding dateMeaning dateItemBehind
-bare-days s p y m d e b x q h = go (goodDates raw) refl (rw (date-item s p y (Fixed m d) (b .behind) (b .start), b .rest) at h)
+bare-days s p y m d e b x q h = go (goodDates raw) refl (rw (date-item s p y (Fixed m d) (b .after) (b .start), b .rest) at h)
   where
     raw : RawDates
     raw = record { date = rawDate y (Fixed m d); offset = b .offset; end = Bare e (b .offset-end) }

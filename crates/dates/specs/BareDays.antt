@@ -64,12 +64,12 @@ EndsOn Absent m d e end = (y : ℕ) → leap y ≡ true → (t : Ymd) × (end �
 
 -- what stands at place p of the text s: a fixed date, with or without a year, and after it `-` and a bare day e, both with offset or not
 pub record BareRead (s : List ℕ) (p : ℕ) (y : Year) (m d e : ℕ) : Type 0 where
-  pub behind : ℕ
+  pub after : ℕ
   pub next : ℕ
   pub offset : RawOffset
   pub offset-end : RawOffset
-  pub start : date s p ≡ got (rawDate y (Fixed m d)) behind
-  pub rest : datesBehind (rawDate y (Fixed m d)) s behind ≡ got (record { date = rawDate y (Fixed m d); offset = offset; end = Bare e offset-end }) next
+  pub start : date s p ≡ got (rawDate y (Fixed m d)) after
+  pub rest : datesBehind (rawDate y (Fixed m d)) s after ≡ got (record { date = rawDate y (Fixed m d); offset = offset; end = Bare e offset-end }) next
 
 -- the item that such a text is read as
 pub record BareItem (y : Year) (m d e : ℕ) (x : Item) : Type 0 where

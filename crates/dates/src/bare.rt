@@ -43,7 +43,11 @@ fn first_with(e: u8, a: YearMonth) -> YearMonth
     requires { ⌜ a .year ≤ 10000 ⌝ }
     ensures { λ r. ⌜ r ≡ meanings.firstWith e a ⌝ }
 {
-    if is_day(a.year, a.month, e) { a } else { next_month(a) }
+    if is_day(a.year, a.month, e) {
+        a
+    } else {
+        next_month(a)
+    }
 }
 
 // Bare end day e after day d of month a: the first day of the calendar with that number, not before the start.

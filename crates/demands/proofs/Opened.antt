@@ -7,6 +7,7 @@ use Rattle.names.specs.Read.{one, ahead, atEnd}
 use Rattle.names.specs.Spellings.{allSmall, written, spelt, warns}
 use Rattle.names.specs.Tests.{within}
 use Rattle.names.specs.Texts.{byte, allOf, blanks, blank, comma}
+use Rattle.calendar.specs.Calendar.{leap, lastOfFebruary, hasThirty, lastOf, isDay}
 use Rattle.records.specs.Words.{wordsOf}
 use Rattle.times.specs.Meanings.{dayClock, endClock, repeatClock, spanMeaning}
 use Rattle.times.specs.Spans.{repeated, tail, untilTime, spanBehind, spanShape, timeItem, eventItemBehind}
@@ -17,7 +18,7 @@ use Rattle.days.specs.Offsets.{plusOrMinus, dayOffset, anyDays, wdayOffset, off
 use Rattle.days.specs.Weekdays.{untilWeekday, withEntries, weekdayBehind, weekdayShape, flagged, weekdayMeaning, weekdayItem, weekdayItemBehind}
 use Rattle.dates.specs.Dates.{optionalYear, backNth, frontNth, nth, weekdayOf, dayOf, dayBehind, date}
 use Rattle.dates.specs.Ends.{untilDate, bareDay, until, endShape, datesBehind}
-use Rattle.dates.specs.Meanings.{nextYear, bareEnd, lastDay, dateMeaning, monthMeaning}
+use Rattle.dates.specs.Meanings.{nextYear, nextMonth, monthFrom, firstWith, bareEnd, lastDay, dateMeaning, monthMeaning}
 use Rattle.dates.specs.MonthDays.{lastMonth, monthBehind, monthItemBehind, dateItemBehind, monthDayBehind, monthDayItem}
 use Rattle.dates.specs.Ranges.{stepped, untilLast, goodRange, stepOf}
 use Rattle.dates.specs.Weeks.{weekShape, weekMeaning, weekItem}
@@ -38,5 +39,5 @@ use Rattle.sheet.specs.Warnings.{isLetter, warningsIn}
 
 -- nothing, over the line that opens them
 unfoldable pub opened : Unit {0}
-unfolding chainIn chain many skip names spelledSo lower letter firstOf word name isDigit digit upTo digits clockBehind number insideOf one ahead atEnd allSmall written spelt warns within byte allOf blanks blank comma wordsOf dayClock endClock repeatClock spanMeaning repeated tail untilTime spanBehind spanShape timeItem eventItemBehind clock moved movedEvent rawTime backEntry frontEntry entry nextEntry setAll goodEntry marked markedAll entries bits holidayBehind holidayShape holidayMeaning holidayItem holidayItemBehind plusOrMinus dayOffset anyDays wdayOffset offset untilWeekday withEntries weekdayBehind weekdayShape flagged weekdayMeaning weekdayItem weekdayItemBehind optionalYear backNth frontNth nth weekdayOf dayOf dayBehind date untilDate bareDay until endShape datesBehind nextYear bareEnd lastDay dateMeaning monthMeaning lastMonth monthBehind monthItemBehind dateItemBehind monthDayBehind monthDayItem stepped untilLast goodRange stepOf weekShape weekMeaning weekItem yearBehind yearShape yearMeaning yearItem yearItemBehind isInner comment commentApart weeks small weeksOrSmall behindYears first colon anyDay headWords withComment modifier selected missing more weekdayStage holidayStage end always wideComment opening wins behind rule commaBlank bars separator next laid withNext partOf partReading partIn begins partEnd beginnings textOf sheetOf textReading sheetReading parted moreRules noMore rules records isLetter warningsIn
+unfolding chainIn chain many skip names spelledSo lower letter firstOf word name isDigit digit upTo digits clockBehind number insideOf one ahead atEnd allSmall written spelt warns within byte allOf blanks blank comma leap lastOfFebruary hasThirty lastOf isDay wordsOf dayClock endClock repeatClock spanMeaning repeated tail untilTime spanBehind spanShape timeItem eventItemBehind clock moved movedEvent rawTime backEntry frontEntry entry nextEntry setAll goodEntry marked markedAll entries bits holidayBehind holidayShape holidayMeaning holidayItem holidayItemBehind plusOrMinus dayOffset anyDays wdayOffset offset untilWeekday withEntries weekdayBehind weekdayShape flagged weekdayMeaning weekdayItem weekdayItemBehind optionalYear backNth frontNth nth weekdayOf dayOf dayBehind date untilDate bareDay until endShape datesBehind nextYear nextMonth monthFrom firstWith bareEnd lastDay dateMeaning monthMeaning lastMonth monthBehind monthItemBehind dateItemBehind monthDayBehind monthDayItem stepped untilLast goodRange stepOf weekShape weekMeaning weekItem yearBehind yearShape yearMeaning yearItem yearItemBehind isInner comment commentApart weeks small weeksOrSmall behindYears first colon anyDay headWords withComment modifier selected missing more weekdayStage holidayStage end always wideComment opening wins behind rule commaBlank bars separator next laid withNext partOf partReading partIn begins partEnd beginnings textOf sheetOf textReading sheetReading parted moreRules noMore rules records isLetter warningsIn
 opened = tt

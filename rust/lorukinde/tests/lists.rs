@@ -90,6 +90,24 @@ fn exchange_line(two: &[u8], k: usize, room: usize) -> Vec<u8> {
     format!("X {} {}", alike.len(), not.len()).into_bytes()
 }
 
+/// docs/DIFFERENCES.md, 6: the Rust ends on a day that the month lacks; here a bare end day is then in the next month.
+fn moved_to_the_next_month(ours: &[u8], rusts: &[u8]) -> bool {
+    let words = |line: &[u8]| -> Vec<i32> { String::from_utf8_lossy(line).split(' ').map(|word| word.parse().unwrap()).collect() };
+    let (ours, mut rusts) = (words(ours), words(rusts));
+    if rusts[0] != 4 || rusts[8] != 1 {
+        return false;
+    }
+    let (year, month, day) = (rusts[9], rusts[10], rusts[11]);
+    let last = match month {
+        2 if year % 4 == 0 && (year % 100 != 0 || year % 400 == 0) => 29, // without a year, which is 0, too
+        2 => 28,
+        4 | 6 | 9 | 11 => 30,
+        _ => 31,
+    };
+    rusts[10] += 1;
+    last < day && ours == rusts
+}
+
 /// The oracle's fixed list, where it is there: sheets, one a line, and for each the four numbers of its answer and its records
 /// (a table of 512), as the program writes them. The first line of both files says how they were made.
 #[test]
@@ -99,13 +117,18 @@ fn the_oracles_list() {
         _ => return println!("tools/oracle has no sample.txt with sample.out: not run"),
     };
     let mut expected = expected.into_iter().skip(1);
+    let mut moved = 0;
     for sheet in &sheets[1..] {
-        let lines = sheet_lines(sheet, 512);
-        let expected: Vec<_> = expected.by_ref().take(lines.len()).collect();
-        assert_eq!(lines, expected, "{}", String::from_utf8_lossy(sheet));
+        for line in sheet_lines(sheet, 512) {
+            let rusts = expected.next().unwrap();
+            if line != rusts {
+                assert!(moved_to_the_next_month(&line, &rusts), "{}", String::from_utf8_lossy(sheet));
+                moved += 1;
+            }
+        }
     }
     assert_eq!(expected.next(), None);
-    println!("{} sheets", sheets.len() - 1);
+    println!("{} sheets, {moved} bare end days moved", sheets.len() - 1);
 }
 
 /// Random sheets: the whole is accepted where every part is, with their records one behind the other, and else refused as the
