@@ -1,5 +1,5 @@
 -- What the calendar says of years.
-use Prim.Native.Nat.{ℕ, _%_, _/_}
+use Prim.Native.Nat.{_%_, _/_}
 use mathlib.Core.Bool.{Bool, true, false, not, _&&_, _||_, true≢false}
 use mathlib.Core.Logic.{_⊎_, inl, inr, ⊎-elim}
 use mathlib.Core.Path.{_≡_, refl, sym}

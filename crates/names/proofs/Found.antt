@@ -1,7 +1,7 @@
 -- What is so of every value that a reader finds.
 use Prim.Native.Nat.{ℕ}
 use mathlib.Core.List.{List}
-use mathlib.Core.Path.{_≡_, refl}
+use mathlib.Core.Path.{_≡_}
 use native.Mathlib.Omega.{arith}
 use Rattle.names.specs.Read.{Read, got, none, refused, Reader, follow, nothing, pure, _>>=_, _or_}
 

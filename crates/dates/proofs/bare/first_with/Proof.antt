@@ -1,9 +1,18 @@
 -- `dates::bare::first_with` meets its contract.
 use borrow.Author.Needs.{needs}
-use mathlib.Core.Path.{sym, _∙_}
+use mathlib.Core.Bool.{true, false}
+use mathlib.Core.Path.{_≡_, sym, _∙_}
+use Rattle.calendar.specs.Calendar.{isDay}
 use Rattle.dates.specs.Meanings.{firstWith}
 use Rattle.dates.proofs.bare.first_with.Statement.{statement}
 use Rattle.dates.proofs.bare.first_with.Tie as tie
+
+-- the month has the day, or not
+there : (c : tie.Then1) → let x = c .before .before .args in isDay (x .a .year) (x .a .month) (x .e) ≡ true
+there c = sym (c .before .is-day .ensures) ∙ c .if1 .taken
+
+lacking : (c : tie.Else1) → let x = c .before .before .args in isDay (x .a .year) (x .a .month) (x .e) ≡ false
+lacking c = sym (c .before .is-day .ensures) ∙ c .if1 .left
 
 pub first-with-spec : {M : Type 1} → statement M
 unfolding firstWith
@@ -12,5 +21,5 @@ first-with-spec =
     (tie.spec
     (λ c κs. search needs)  -- is-day-requires
     (λ c κs. search needs)  -- next-month-requires
-    (λ c. rw (sym (c .before .is-day .ensures) ∙ c .if1 .taken))  -- returns
-    (λ c. rw (sym (c .before .before .is-day .ensures) ∙ c .before .if1 .left) (c .next-month .ensures)))  -- returns-2
+    (λ c. rw (there c))  -- returns
+    (λ c. rw (lacking (c .before)) (c .next-month .ensures)))  -- returns-2

@@ -1,6 +1,7 @@
 -- `dates::bare::month_from` meets its contract.
 use borrow.Author.Needs.{needs}
 use borrow.Author.Tests.{le-leb, lt-leb}
+use native.Mathlib.Omega.{arith}
 use Rattle.dates.specs.Meanings.{monthFrom}
 use Rattle.dates.proofs.bare.month_from.Statement.{statement}
 use Rattle.dates.proofs.bare.month_from.Tie as tie
@@ -11,5 +12,5 @@ month-from-spec =
     tie.close
     (tie.spec
     (λ c κs. search needs)  -- next-month-requires
-    (λ c. let a = c .before .args in rw (le-leb (a .d) (a .e) (c .if1 .taken)))  -- returns
-    (λ c. let a = c .before .before .args in rw (lt-leb (a .d) (a .e) (c .before .if1 .left)) (c .next-month .ensures)))  -- returns-2
+    (λ c. let a = c .before .args in rw (le-leb (a .d) (a .e) (omega arith)))  -- returns
+    (λ c. let a = c .before .before .args in rw (lt-leb (a .d) (a .e) (omega arith)) (c .next-month .ensures)))  -- returns-2

@@ -1,6 +1,7 @@
 -- `dates::bare::next_month` meets its contract.
 use borrow.Author.Needs.{needs}
 use borrow.Author.Tests.{lt-ltb, le-ltb}
+use native.Mathlib.Omega.{arith}
 use native.Mathlib.Numerals.{add-one}
 use Rattle.dates.specs.Meanings.{nextMonth}
 use Rattle.dates.proofs.bare.next_month.Statement.{statement}
@@ -12,6 +13,6 @@ next-month-spec =
     tie.close
     (tie.spec
     (λ c. search needs)  -- add
-    (λ c. rw (lt-ltb (c .before .before .before .args .a .month) 12 (c .before .if1 .taken), add-one))  -- returns
+    (λ c. rw (lt-ltb (c .before .before .before .args .a .month) 12 (omega arith), add-one))  -- returns
     (λ c κs. search needs)  -- next-year-requires
-    (λ c. rw (le-ltb (c .before .before .before .args .a .month) 12 (c .before .if1 .left), c .next-year .ensures)))  -- returns-2
+    (λ c. rw (le-ltb (c .before .before .before .args .a .month) 12 (omega arith), c .next-year .ensures)))  -- returns-2
