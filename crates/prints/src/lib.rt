@@ -1,11 +1,14 @@
-// What the programs write to standard output: numbers, a blank or the line's end behind each.
-ghost use Prim.Native.Nat.{_+_, _≤_};
+// What the programs write: numbers and lines of numbers, into lent bytes (`Pen`) or to standard output, a blank or the line's end after each.
+mod pens;
+
+ghost use Prim.Native.Nat.{_≤_};
 ghost use mathlib.Core.Path.{_≡_};
 ghost use lib.IntN.{natAbs};
 ghost use lib.ListN.{length};
 use libc::STDOUT_FILENO;
+pub use pens::Pen;
 
-// A number, and the byte behind it.
+// A number, and the byte after it.
 pub fn print_number(n: u64, end: u8) {
     io::print_decimal(STDOUT_FILENO, n);
     io::write_all(STDOUT_FILENO, &[end]);
@@ -21,22 +24,13 @@ pub fn size(w: i32) -> u64
     w as u64
 }
 
-// A word, and the byte behind it.
-fn print_word(w: i32, end: u8) {
-    if w < 0 {
-        io::write_all(STDOUT_FILENO, b"-");
-    }
-    print_number(size(w), end);
-}
-
-// The 16 words of the record from a place of the table on, on a line.
-fn print_record(table: &[i32], at: usize)
-    requires { ⌜ at + 16 ≤ length (now table) ⌝ }
+// A record's words on a line, of 16 times 12 bytes at most.
+fn print_record(words: &[i32])
+    requires { ⌜ length (now words) ≤ 16 ⌝ }
 {
-    for i in 0..15 {
-        print_word(table[at + i], 32);
-    }
-    print_word(table[at + 15], 10);
+    let mut line = [0u8; 192];
+    let n = Pen { at: 0 }.put_line(&mut line, words).at;
+    io::write_all(STDOUT_FILENO, &line[..n]);
 }
 
 // The first n records of a table, each on a line; those that it has not are left out.
@@ -47,13 +41,13 @@ pub fn print_records(table: &[i32], n: usize) {
         if table.len() - at < 16 {
             return;
         }
-        print_record(table, at);
+        print_record(&table[at..at + 16]);
         at += 16;
         k += 1;
     }
 }
 
-// The four numbers of an answer, and the byte behind them.
+// The four numbers of an answer, and the byte after them.
 pub fn print_answer(number: u8, place: usize, records: usize, warnings: usize, end: u8) {
     print_number(number as u64, 32);
     print_number(place as u64, 32);

@@ -1,7 +1,8 @@
 -- `prints::print_records` is safe and ends.
 use borrow.Author.Needs.{needs}
+use native.Mathlib.Omega.{arith}
 use Prim.Native.Nat.{_-_, _≤_}
-use lib.ListN.{length}
+use lib.ListN.{length, length-take, length-drop}
 use Rattle.prints.proofs.print_records.Statement.{statement}
 use Rattle.prints.proofs.print_records.Tie as tie
 
@@ -20,7 +21,12 @@ print-records-spec =
     (λ c. search needs)  -- loop-holds
     (λ c. search needs)  -- sub-if1
     (λ c. search needs)  -- returns
-    (λ c κs. search needs)  -- print-record-requires
+    (λ c. search needs)  -- add-print-record
+    (λ c. search needs)  -- mul-print-record
+    (λ c. search needs)  -- sub-print-record
+    (λ c. search needs)  -- part-print-record-start
+    (λ c. search needs)  -- part-print-record-end
+    (λ c κs. simp (length-take, length-drop) (omega arith))  -- print-record-requires
     (λ c. search needs)  -- add-at
     (λ c. search needs)  -- add-k
     (λ c. search needs)  -- loop-less

@@ -1,0 +1,60 @@
+-- `prints::Pen::put_line` meets its contract: what is left of the line, written after what was, makes the whole.
+use borrow.Author.Needs.{needs, sfits-of}
+use Prim.Native.Nat.{_+_, _*_, _-_, _≤_}
+use mathlib.Core.List.{_∷_, []}
+use mathlib.Core.Logic.{⊎-elim}
+use mathlib.Core.Path.{_≡_, ap, refl, _∙_}
+use native.Mathlib.Omega.{arith}
+use denote.Ref.{now}
+use lib.IntN.{pos}
+use lib.ListN.{length, drop, getD}
+use mir.Syntax.{w32}
+use mir.Facts.{toZ-ofZ}
+use Rattle.prints.specs.Decimals.{signed}
+use Rattle.prints.specs.Lines.{after, line}
+use Rattle.prints.proofs.Lines.{line-more, after-more, after-last, line-end}
+use Rattle.prints.proofs.Writing.{Left, all-left, less-left, none-left}
+use Rattle.prints.proofs.pens.Pen.put_line.Statement.{statement}
+use Rattle.prints.proofs.pens.Pen.put_line.Tie as tie
+
+abbrev Inv-loop : tie.InvT-loop
+Inv-loop out₀ words pen₀ i₀ i-end out pen i = (i ≤ length words) × (pen .at ≤ pen₀ .at + 12 * i) × Left (line words) (pen₀ .at) out₀ (pen .at) out (line (drop i words))
+
+abbrev μ-loop : tie.MeasureT-loop
+μ-loop out₀ words pen₀ i₀ i-end out pen i = length words - i
+
+-- the byte after a number
+ended : (c : tie.Joined1 Inv-loop μ-loop) → let l = c .before .before in c .if1 .end ≡ after (drop (l .loop .i + 1) (now (l .before .before .args .words)))
+ended c = let l = c .before .before in let ws = now (l .before .before .args .words) in
+    ⊎-elim (λ t. t .1 ∙ after-more ws (l .loop .i + 1) (t .0 .taken)) (λ t. t .1 ∙ after-last ws (l .loop .i + 1) (t .0 .left)) (c .if1 .came)
+
+
+pub put-line-spec : {M : Type 1} → statement M
+put-line-spec =
+    tie.close
+    (tie.spec
+    Inv-loop
+    μ-loop
+    (λ c. (search needs, search needs, all-left (search needs)))  -- loop-holds
+    (λ c. search needs)  -- add-if1
+    (λ c. search needs)  -- mul-put-word
+    (λ c. search needs)  -- shared-slice-copy-out-put-word
+    (λ c κs. search needs)  -- put-word-requires
+    (λ c κs. search needs)  -- put-requires
+    (λ c. search needs)  -- add-i
+    (λ c. search needs)  -- loop-less
+    (λ c. let p = c .before .before in
+    let w = p .before .before .before .before in
+    let j = w .before .before .before in
+    let l = j .before .before in
+    let ws = now (l .before .before .args .words) in
+    let i = l .loop .i in
+    (search needs,
+    omega (arith, l .loop .inv .1, w .put-word .ensures .0, ap (λ r. r .0) (p .put .ensures)),
+    less-left (j .if1 .end ∷ []) (line (drop (i + 1) ws)) (search needs)
+      (less-left (signed (getD ws i (pos 0))) (after (drop (i + 1) ws) ∷ line (drop (i + 1) ws)) (search needs) (l .loop .inv .2) (line-more ws i (j .before .loop-test .taken))
+        (rw (toZ-ofZ {w = w32} {z = getD ws i (pos 0)} (sfits-of (w .before .put-word-arg2 .given))) at (w .put-word .ensures .1)))
+      (rw (ended j)) (p .put .ensures)))  -- loop-again
+    (λ c. search needs)  -- same-length
+    (λ c. let l = c .before .loop in
+    (omega (arith, l .inv .0, l .inv .1), none-left (rw (line-end (now (c .before .before .before .args .words)) (l .i) (c .loop-test .left)) at (l .inv .2)))))  -- returns
