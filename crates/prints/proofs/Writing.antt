@@ -54,7 +54,7 @@ module _ {text : List ℕ} {at : ℕ} {out : List ℕ} {p : ℕ} {o : List ℕ} 
       record {
         same = rw (eu, length-sets) (l .same);
         counted = omega arith;
-        whole = wrote-append x y p o (omega (arith, l .same)) e ∙ rw r at (l .whole)
+        whole = wrote-append x y p o (omega (arith, l .same)) e ∙ rw r at (l .whole);
       }
 
   -- after the last

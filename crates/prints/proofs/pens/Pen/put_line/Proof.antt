@@ -28,7 +28,6 @@ ended : (c : tie.Joined1 Inv-loop μ-loop) → let l = c .before .before in c .i
 ended c = let l = c .before .before in let ws = now (l .before .before .args .words) in
     ⊎-elim (λ t. t .1 ∙ after-more ws (l .loop .i + 1) (t .0 .taken)) (λ t. t .1 ∙ after-last ws (l .loop .i + 1) (t .0 .left)) (c .if1 .came)
 
-
 pub put-line-spec : {M : Type 1} → statement M
 put-line-spec =
     tie.close
@@ -48,13 +47,14 @@ put-line-spec =
     let j = w .before .before .before in
     let l = j .before .before in
     let ws = now (l .before .before .args .words) in
-    let i = l .loop .i in
-    (search needs,
-    omega (arith, l .loop .inv .1, w .put-word .ensures .0, ap (λ r. r .0) (p .put .ensures)),
-    less-left (j .if1 .end ∷ []) (line (drop (i + 1) ws)) (search needs)
-      (less-left (signed (getD ws i (pos 0))) (after (drop (i + 1) ws) ∷ line (drop (i + 1) ws)) (search needs) (l .loop .inv .2) (line-more ws i (j .before .loop-test .taken))
-        (rw (toZ-ofZ {w = w32} {z = getD ws i (pos 0)} (sfits-of (w .before .put-word-arg2 .given))) at (w .put-word .ensures .1)))
-      (rw (ended j)) (p .put .ensures)))  -- loop-again
+    let i = l .loop .i in (
+      search needs,
+      omega (arith, l .loop .inv .1, w .put-word .ensures .0, ap (λ r. r .0) (p .put .ensures)),
+      less-left (j .if1 .end ∷ []) (line (drop (i + 1) ws)) (search needs)
+          (less-left (signed (getD ws i (pos 0))) (after (drop (i + 1) ws) ∷ line (drop (i + 1) ws)) (search needs) (l .loop .inv .2) (line-more ws i (j .before .loop-test .taken))
+          (rw (toZ-ofZ {w = w32} {z = getD ws i (pos 0)} (sfits-of (w .before .put-word-arg2 .given))) at (w .put-word .ensures .1)))
+          (rw (ended j)) (p .put .ensures),
+    ))  -- loop-again
     (λ c. search needs)  -- same-length
     (λ c. let l = c .before .loop in
     (omega (arith, l .inv .0, l .inv .1), none-left (rw (line-end (now (c .before .before .before .args .words)) (l .i) (c .loop-test .left)) at (l .inv .2)))))  -- returns
