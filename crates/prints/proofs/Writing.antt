@@ -33,6 +33,10 @@ wrote-append x y at out {p} {o} h e =
     let s : sets (sets out at x) (min (at + length x) largest) y ≡ sets out at (x ++ y) = sets-largest (sets out at x) (at + length x) y (rw length-sets h) ∙ sym (sets-append x y out at) in
     rw (ep, eo, l, s)
 
+-- both
+pub then : (x y : List ℕ) (at : ℕ) (out : List ℕ) {p q : ℕ} {o u : List ℕ} → length out ≤ largest → (p, o) ≡ wrote x at out → (q, u) ≡ wrote y p o → (q, u) ≡ wrote (x ++ y) at out
+then x y at out h e f = f ∙ wrote-append x y at out h e
+
 -- ---- a loop that writes a text piece by piece
 
 -- of a text that is written from `at` over `out`, this is left at the place p, over the bytes o
