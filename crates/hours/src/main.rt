@@ -18,17 +18,19 @@ fn read_input(space: &mut [u8]) -> Input
 {
     let mut n: usize = 0;
     while n < space.len() {
-        let got = libc::read(STDIN_FILENO, &mut space[n..]);
+        let rest = &mut space[n..];
+        let got = libc::read(STDIN_FILENO, rest);
         if got < 0 {
             return Input {
-                bytes: 0,
+                bytes: n,
                 is_failed: true,
             };
         }
-        if got == 0 {
+        let more = io::count(got, rest);
+        if more == 0 {
             break;
         }
-        n += got as usize;
+        n += more;
     }
     Input {
         bytes: n,
