@@ -5,5 +5,7 @@ set -euo pipefail
 . "$(dirname "$0")/x86.sh"
 [ -x "$root/target/bin/hours" ] || (cd "$root" && rt check hours) >&2
 x86_tools
-{ failure=$("${emulator[@]}" "$root/target/bin/hours" 2>&1 >&3); } 3>&1
-[ -z "$failure" ] || { printf '%s\n' "$failure" >&2; exit 1; }
+said=$(mktemp)
+trap 'rm -f "$said"' EXIT
+"${emulator[@]}" "$root/target/bin/hours" 2>"$said"
+[ ! -s "$said" ] || { cat "$said" >&2; exit 1; }
