@@ -14,7 +14,7 @@ run() {
     runs=$((runs + 1))
     if [ "$code" = "$2" ] && cmp -s "$work/out" "$work/wanted" && [ "$(wc -l <"$work/said")" = "$lines" ]; then return; fi
     wrong=$((wrong + 1))
-    echo "$1: exit code $code, on standard error: $(cat "$work/said")"
+    echo "$1: exit code $code, $(wc -l <"$work/out") lines from '$(head -1 "$work/out")' on, on standard error: $(cat "$work/said")"
 }
 
 # hours: the program, from standard input to $work/out

@@ -13,7 +13,7 @@ use Rattle.sheet.proofs.Copies.{Sixteen, words-wide, cellsOf, front-split}
 use Rattle.demands.proofs.TogetherWords.{sheet-held}
 use Rattle.prints.specs.Lines.{line, lines}
 use Rattle.prints.specs.Pens.{largest, wrote}
-use Rattle.outputs.specs.Outputs.{numbersOf, outputOf, filled}
+use Rattle.outputs.specs.Outputs.{numbersOf, outputOf, filled, longest}
 use Rattle.outputs.specs.Slots.{slots}
 
 -- records, one after another in a table, are the first of its slots
@@ -42,5 +42,5 @@ module _ (s : List ℕ) (t : List ℤ) {a : Answer} {u : List ℤ} (long : lengt
       rw (read, answer, long)
 
 -- a text that the pen can count is written whole
-pub all-counted : (text out : List ℕ) {r : ℕ} {o : List ℕ} → (r, o) ≡ wrote text 0 out → r ≤ 98388 → (r, o) ≡ filled text out
+pub all-counted : (text out : List ℕ) {r : ℕ} {o : List ℕ} → (r, o) ≡ wrote text 0 out → r ≤ longest → (r, o) ≡ filled text out
 all-counted text out e h = let n : min (0 + length text) largest ≡ length text = omega (arith, ap (λ r. r .0) e) in rw n at e

@@ -1,5 +1,5 @@
 -- What the program writes for a sheet.
-use Prim.Native.Nat.{ℕ, _*_}
+use Prim.Native.Nat.{ℕ, _+_, _*_}
 use mathlib.Core.List.{List, [], _∷_}
 use lib.IntN.{ℤ, pos}
 use lib.ListN.{length}
@@ -21,3 +21,7 @@ outputOf s =
 -- the length of a text, and bytes with it over their front, as far as they reach, the rest as before
 abbrev pub filled : List ℕ → List ℕ → ℕ × List ℕ
 filled text out = (length text, sets out 0 text)
+
+-- no output is longer: four numbers of 20 digits at most, and 512 times 16 words of a sign and ten digits at most, a byte after each
+abbrev pub longest : ℕ
+longest = 4 * 21 + 512 * 16 * 12

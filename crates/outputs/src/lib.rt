@@ -6,17 +6,17 @@ ghost use lib.ListN.{length};
 ghost use Rattle.prints.specs.Decimals.{decimal};
 ghost use Rattle.prints.specs.Lines.{line, lines};
 ghost use Rattle.prints.specs.Pens.{wrote};
-ghost use Rattle.outputs.specs.Outputs.{numbersOf, outputOf, filled};
+ghost use Rattle.outputs.specs.Outputs.{numbersOf, outputOf, filled, longest};
 ghost use Rattle.outputs.specs.Slots.{slots};
 use prints::Pen;
 use sheet::Answer;
 use sheet::read_sheet;
 
 // A table for 512 records.
-const WORDS: usize = 8192;
+const WORDS: usize = 512 * 16;
 
-// No output has more bytes: a line of four numbers, of 20 digits at most, and 512 of 16 words, of 11 bytes at most, with a byte after each.
-pub const MOST: usize = 98388;
+// The bytes that are enough for every output (`longest`).
+pub const MOST: usize = 4 * 21 + 512 * 16 * 12;
 
 // A number, and the byte after it.
 fn put_ended(pen: Pen, out: &mut [u8], n: u64, end: u8) -> Pen
@@ -53,7 +53,7 @@ fn put_records(pen: Pen, out: &mut [u8], table: &[i32], n: usize) -> Pen
 
 // The whole output for a sheet is written over the front of lent bytes; a byte that has no room is counted and not written.
 pub fn output(sheet: &[u8], out: &mut [u8]) -> usize
-    ensures most { λ r. ⌜ r ≤ 98388 ⌝ }
+    ensures most { λ r. ⌜ r ≤ longest ⌝ }
     ensures whole { λ r. ⌜ (r, now (out .exit)) ≡ filled (outputOf (now (sheet .entry))) (now (out .entry)) ⌝ }
 {
     let mut table = [0i32; WORDS];

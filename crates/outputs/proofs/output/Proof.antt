@@ -8,7 +8,7 @@ use denote.Ref.{now}
 use lib.ListN.{length}
 use Rattle.prints.specs.Lines.{line, lines}
 use Rattle.prints.proofs.Writing.{then}
-use Rattle.outputs.specs.Outputs.{numbersOf, outputOf}
+use Rattle.outputs.specs.Outputs.{numbersOf, outputOf, longest}
 use Rattle.outputs.specs.Slots.{slots}
 use Rattle.outputs.proofs.Tables.{few-records, output-lines, all-counted}
 use Rattle.outputs.proofs.output.Statement.{statement}
@@ -31,7 +31,7 @@ output-spec =
     let s = r .before .before .before .before in
     let a = s .args in
     let few = few-records (now (a .sheet)) _ refl (r .read-sheet .ensures) in
-    let most : p .put-records .result .at ≤ 98388 = omega (arith, few, w .put-answer .ensures .0, p .put-records .ensures .0) in (
+    let most : p .put-records .result .at ≤ longest = omega (arith, few, w .put-answer .ensures .0, p .put-records .ensures .0) in (
       most,
       all-counted (outputOf (now (a .sheet))) (now (a .out))
           (rw (output-lines (now (a .sheet)) _ refl (r .read-sheet .ensures)) at

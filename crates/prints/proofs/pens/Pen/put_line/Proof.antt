@@ -26,7 +26,7 @@ abbrev μ-loop : tie.MeasureT-loop
 -- the byte after a number
 ended : (c : tie.Joined1 Inv-loop μ-loop) → let l = c .before .before in c .if1 .end ≡ after (drop (l .loop .i + 1) (now (l .before .before .args .words)))
 ended c = let l = c .before .before in let ws = now (l .before .before .args .words) in
-    ⊎-elim (λ t. t .1 ∙ after-more ws (l .loop .i + 1) (t .0 .taken)) (λ t. t .1 ∙ after-last ws (l .loop .i + 1) (t .0 .left)) (c .if1 .came)
+    ⊎-elim (λ t. t .1 ∙ after-more ws (l .loop .i + 1) (omega (arith, t .0 .taken))) (λ t. t .1 ∙ after-last ws (l .loop .i + 1) (omega (arith, t .0 .left))) (c .if1 .came)
 
 pub put-line-spec : {M : Type 1} → statement M
 put-line-spec =
