@@ -1,5 +1,6 @@
 -- The names, and which of them stands at a place of a text.
 use Prim.Native.Nat.{ℕ, _+_}
+use Prim.Native.Char.{code}
 use mathlib.Core.List.{List, [], _∷_}
 use mathlib.Core.Bool.{Bool}
 use lib.Dec.{leb, eqb}
@@ -84,7 +85,7 @@ spelledSo kind = leb holiday kind
 
 -- the small letter of a capital
 unfoldable pub lower : ℕ → ℕ
-lower b = if within 65 90 b then b + 32 else b
+lower b = if within (code "A") (code "Z") b then b + 32 else b
 
 -- as what a letter of the text counts for a name of this kind: the other names take any case
 unfoldable pub letter : ℕ → ℕ → ℕ

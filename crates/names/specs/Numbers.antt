@@ -1,5 +1,6 @@
 -- Digits: year 4, N 1 to 5, n 1, MM 2, others 1 or 2.
 use Prim.Native.Nat.{ℕ, zero, suc, _+_, _-_, _*_}
+use Prim.Native.Char.{code}
 use mathlib.Core.Bool.{Bool}
 use lib.Dec.{eqb}
 use Rattle.names.specs.Tests.{within}
@@ -9,13 +10,13 @@ use Rattle.names.specs.Texts.{sign}
 
 -- a byte of 0 to 9
 unfoldable pub isDigit : ℕ → Bool
-isDigit = within 48 57
+isDigit = within (code "0") (code "9")
 
 -- one digit
 unfoldable pub digit : Reader ℕ
 digit = do
   b ← one isDigit
-  pure (b - 48)
+  pure (b - code "0")
 
 -- the number a, where no more digits are wanted
 abbrev pub enough : ℕ → ℕ → Reader ℕ

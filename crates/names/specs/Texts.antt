@@ -30,7 +30,7 @@ allOf f (x ∷ xs) = do
 
 -- bytes 32, or none
 unfoldable pub blanks : Reader (Unit {0})
-blanks = skip (eqb 32)
+blanks = skip (eqb (code " "))
 
 -- a blank: one or more bytes 32
 unfoldable pub blank : Reader (Unit {0})
@@ -42,4 +42,4 @@ blank = do
 unfoldable pub comma : Reader (Unit {0})
 comma = do
   sign ","
-  ahead (λ b. not (eqb 32 b))
+  ahead (λ b. not (eqb (code " ") b))

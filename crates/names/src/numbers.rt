@@ -7,13 +7,13 @@ ghost use Rattle.names.specs.Seen.{Reads, seenNum, seenStep};
 use crate::Cursor;
 use crate::Num;
 use crate::Step;
-use crate::tests::within;
+use crate::tests::byte_within;
 
 // A byte of 0 to 9.
 fn is_digit(b: u8) -> bool
     ensures { λ r. ⌜ r ≡ numbers.isDigit b ⌝ }
 {
-    within(48, 57, b as u32)
+    byte_within(b'0', b'9', b)
 }
 
 // The number sum of n digits, where that is enough.
@@ -35,7 +35,7 @@ impl Cursor {
         let at = self.at;
         let b = self.byte(s);
         if is_digit(b) {
-            Num::Got((b as u32) - 48, Cursor { at: at + 1 })
+            Num::Got((b - b'0') as u32, Cursor { at: at + 1 })
         } else {
             Num::Missing
         }
@@ -65,7 +65,7 @@ impl Cursor {
     fn clock_behind(self, s: &[u8]) -> Step
         ensures { λ r. ⌜ numbers.clockBehind (now (s .entry)) (self .at) ≡ seenStep r ⌝ }
     {
-        let colon = self.skip(s, 48, 57).sign(s, 58);
+        let colon = self.skip(s, b'0', b'9').sign(s, b':');
         let Step::Got(c) = colon else {
             return colon;
         };

@@ -4,16 +4,16 @@ ghost use Rattle.names.specs.Spellings as spellings;
 use crate::HOLIDAY;
 use crate::MONTH;
 use crate::Spelling;
-use crate::tests::within;
+use crate::tests::byte_within;
 
 // How a name with this first letter is written, where its others are small.
 fn written(b: u8) -> Spelling
     ensures { λ r. ⌜ r ≡ spellings.written b ⌝ }
 {
-    if within(97, 122, b as u32) {
+    if byte_within(b'a', b'z', b) {
         return Spelling::Small;
     }
-    if within(65, 90, b as u32) {
+    if byte_within(b'A', b'Z', b) {
         return Spelling::Capital;
     }
     Spelling::Other
@@ -29,7 +29,7 @@ pub fn spelt(letters: &[u8]) -> Spelling
     let mut i = 1;
     while i < letters.len() {
         let b = letters[i];
-        if within(97, 122, b as u32) {
+        if byte_within(b'a', b'z', b) {
             i += 1;
         } else {
             return Spelling::Other;

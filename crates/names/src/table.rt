@@ -90,7 +90,7 @@ impl Cursor {
         let at = self.at;
         let first = self.byte(s);
         // No name begins with a digit or a sign, nor at the text's end.
-        if first < 65 {
+        if first < b'A' {
             return Word::Missing;
         }
         let table = rows(key(first, Cursor { at: at + 1 }.byte(s)));

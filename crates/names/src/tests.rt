@@ -8,3 +8,10 @@ pub fn within(lo: u32, hi: u32, n: u32) -> bool
 {
     if lo <= n { n <= hi } else { false }
 }
+
+// The same of a byte.
+pub fn byte_within(lo: u8, hi: u8, b: u8) -> bool
+    ensures { λ r. ⌜ r ≡ t.within lo hi b ⌝ }
+{
+    within(lo as u32, hi as u32, b as u32)
+}

@@ -57,14 +57,14 @@ impl Cursor {
     pub fn blanks(self, s: &[u8]) -> Cursor
         ensures { λ r. ⌜ texts.blanks (now (s .entry)) (self .at) ≡ got tt (r .at) ⌝ }
     {
-        self.skip(s, 32, 32)
+        self.skip(s, b' ', b' ')
     }
 
     // A blank: one or more bytes 32.
     pub fn blank(self, s: &[u8]) -> Step
         ensures { λ r. ⌜ texts.blank (now (s .entry)) (self .at) ≡ seenStep r ⌝ }
     {
-        let first = self.sign(s, 32);
+        let first = self.sign(s, b' ');
         let Step::Got(c) = first else {
             return first;
         };
@@ -75,11 +75,11 @@ impl Cursor {
     pub fn comma(self, s: &[u8]) -> Step
         ensures { λ r. ⌜ texts.comma (now (s .entry)) (self .at) ≡ seenStep r ⌝ }
     {
-        let first = self.sign(s, 44);
+        let first = self.sign(s, b',');
         let Step::Got(c) = first else {
             return first;
         };
-        if c.byte(s) == 32 {
+        if c.byte(s) == b' ' {
             Step::Missing
         } else {
             Step::Got(c)

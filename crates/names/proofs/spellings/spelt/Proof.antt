@@ -28,14 +28,13 @@ spelt-spec =
     (λ c. none (now (c .before .before .args .letters)) (c .if1 .taken))  -- returns
     (λ c. (search needs, first (now (c .before .before .args .letters)) (search needs)))  -- loop-holds
     (λ c. search needs)  -- shared-slice-read-b
-    (λ c. omega (arith, c .shared-slice-known2 .given (c .before .before .loop .i)))  -- cast-within
-    (λ c κs. search needs)  -- within-requires
+    (λ c κs. search needs)  -- byte-within-requires
     (λ c. search needs)  -- add-i
     (λ c. search needs)  -- loop-less
     (λ c. let l = c .before .before .before .before in
-    (search needs, one-more (now (l .before .before .before .args .letters)) (l .loop .i) (l .loop .inv .1) (omega arith) (sym (c .before .within .ensures) ∙ c .if2 .taken)))  -- loop-again
+    (search needs, one-more (now (l .before .before .before .args .letters)) (l .loop .i) (l .loop .inv .1) (omega arith) (sym (c .before .byte-within .ensures) ∙ c .if2 .taken)))  -- loop-again
     (λ c. let l = c .before .before .before .before in
-    not-small (now (l .before .before .before .args .letters)) (l .loop .i) (l .loop .inv .1) (omega arith) (sym (c .before .within .ensures) ∙ c .if2 .left))  -- returns-2
+    not-small (now (l .before .before .before .args .letters)) (l .loop .i) (l .loop .inv .1) (omega arith) (sym (c .before .byte-within .ensures) ∙ c .if2 .left))  -- returns-2
     (λ c. search needs)  -- shared-slice-read-written
     (λ c κs. search needs)  -- written-requires
     (λ c. let l = c .before .before .before in

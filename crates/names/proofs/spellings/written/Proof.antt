@@ -11,7 +11,7 @@ written-spec =
     tie.close
     (tie.spec
     (λ c κs. search needs)
-    (λ c. rw (sym (c .before .within .ensures) ∙ c .if1 .taken))
+    (λ c. rw (sym (c .before .byte-within .ensures) ∙ c .if1 .taken))
     (λ c κs. search needs)
-    (λ c. rw (sym (c .before .before .before .within .ensures) ∙ c .before .before .if1 .left, sym (c .before .within2 .ensures) ∙ c .if2 .taken))
-    (λ c. rw (sym (c .before .before .before .within .ensures) ∙ c .before .before .if1 .left, sym (c .before .within2 .ensures) ∙ c .if2 .left)))
+    (λ c. rw (sym (c .before .before .before .byte-within .ensures) ∙ c .before .before .if1 .left, sym (c .before .byte-within2 .ensures) ∙ c .if2 .taken))
+    (λ c. rw (sym (c .before .before .before .byte-within .ensures) ∙ c .before .before .if1 .left, sym (c .before .byte-within2 .ensures) ∙ c .if2 .left)))
