@@ -27,9 +27,10 @@ numbers-right = refl
 words : List (Read ℕ)
 words =
     name weekday (bytes "sunset") 0 ∷ name event (bytes "SunSet+") 0 ∷ name weekday (bytes "Su-Sa") 0 ∷ name weekday (bytes "week 1") 0 ∷ name weekday (bytes "Week 1") 0
-    ∷ name holiday (bytes "PH") 0 ∷ name holiday (bytes "ph") 0 ∷ name day (bytes "days") 0 ∷ name day (bytes "Days") 0 ∷ name month (bytes "2020 dEC 25") 5 ∷ name modifier (bytes "OFF") 0 ∷ name month (bytes "Ma") 0 ∷ []
+    ∷ name holiday (bytes "PH") 0 ∷ name holiday (bytes "ph") 0 ∷ name day (bytes "days") 0 ∷ name day (bytes "Days") 0 ∷ name month (bytes "2020 dEC 25") 5 ∷ name modifier (bytes "OFF") 0 ∷ name month (bytes "Ma") 0
+    ∷ name month (bytes "@pr") 0 ∷ name month (bytes "`pr") 0 ∷ name weekday (bytes "S[") 0 ∷ name weekday (bytes "S{") 0 ∷ name weekday (bytes "-o") 0 ∷ []
 
-words-right : words ≡ none ∷ got 3 6 ∷ got 7 2 ∷ none ∷ got 3 2 ∷ got 1 2 ∷ none ∷ got 0 4 ∷ none ∷ got 12 8 ∷ got 1 3 ∷ none ∷ []
+words-right : words ≡ none ∷ got 3 6 ∷ got 7 2 ∷ none ∷ got 3 2 ∷ got 1 2 ∷ none ∷ got 0 4 ∷ none ∷ got 12 8 ∷ got 1 3 ∷ none ∷ none ∷ none ∷ none ∷ none ∷ none ∷ []
 unfolding words name word firstOf names allOf letter spelledSo lower within one
 words-right = refl
 

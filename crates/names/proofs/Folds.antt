@@ -10,13 +10,9 @@ use Rattle.names.specs.Table.{fold}
 use Rattle.names.proofs.Laws.{within-true, within-below, within-above}
 
 -- folding adds 32 where the bit 32 is not there
-pub fold-is : (b : ℕ) → fold b + b / 32 % 2 * 32 ≡ b + 32
+fold-is : (b : ℕ) → fold b + b / 32 % 2 * 32 ≡ b + 32
 unfolding fold
 fold-is b = ap (λ (n : ℕ). fold b + n) (sym (and-high b 1 5)) ∙ or-add-and b 32
-
--- a small letter folds to itself
-pub fold-small : (x : ℕ) → 97 ≤ x → x ≤ 122 → fold x ≡ x
-fold-small x h l = omega (arith, fold-is x)
 
 -- folding tells a small letter as lowering does
 pub tells : (b x : ℕ) → 97 ≤ x → x ≤ 122 → (fold b ≡ x) ↔ (lower b ≡ x)

@@ -6,13 +6,14 @@ pub mod Skips
 pub mod Chains
 pub mod Cut
 pub mod NameCut
-pub mod Longest
 pub mod Facts
 pub mod Laws
 pub mod Digits
 pub mod Folds
 pub mod Rows
 pub mod Search
+pub mod Lists
+pub mod Longest
 pub mod Letters
 pub mod Apart
 pub mod Examples

@@ -1,7 +1,7 @@
 -- The names, and which of them stands at a place of a text.
 use Prim.Native.Nat.{ℕ, _+_}
 use Prim.Native.Char.{code}
-use mathlib.Core.List.{List, [], _∷_}
+use mathlib.Core.List.{List, [], _∷_, _++_}
 use mathlib.Core.Bool.{Bool}
 use lib.Dec.{leb, eqb}
 use Rattle.names.specs.Tests.{if_then_else_, within}
@@ -41,20 +41,28 @@ Word = ℕ × ℕ
 abbrev pub Row : Type 0
 Row = List ℕ × Word
 
--- the names, the longest first
-unfoldable pub names : List Row
-names =
-    (bytes "sunrise", (event, 2))
-    ∷ (bytes "unknown", (modifier, 2))
-    ∷ (bytes "closed", (modifier, 1))
-    ∷ (bytes "easter", (easter, 0))
-    ∷ (bytes "sunset", (event, 3))
-    ∷ (bytes "dawn", (event, 1))
+-- the names of seven letters
+abbrev pub seven : List Row
+seven = (bytes "sunrise", (event, 2)) ∷ (bytes "unknown", (modifier, 2)) ∷ []
+
+-- of six letters
+abbrev pub six : List Row
+six = (bytes "closed", (modifier, 1)) ∷ (bytes "easter", (easter, 0)) ∷ (bytes "sunset", (event, 3)) ∷ []
+
+-- of four letters
+abbrev pub four : List Row
+four =
+    (bytes "dawn", (event, 1))
     ∷ (bytes "dusk", (event, 4))
     ∷ (bytes "open", (modifier, 0))
     ∷ (bytes "week", (week, 0))
     ∷ (bytes "days", (day, 0))
-    ∷ (bytes "jan", (month, 1))
+    ∷ []
+
+-- of three letters
+abbrev pub three : List Row
+three =
+    (bytes "jan", (month, 1))
     ∷ (bytes "feb", (month, 2))
     ∷ (bytes "mar", (month, 3))
     ∷ (bytes "apr", (month, 4))
@@ -68,7 +76,12 @@ names =
     ∷ (bytes "dec", (month, 12))
     ∷ (bytes "off", (modifier, 1))
     ∷ (bytes "day", (day, 0))
-    ∷ (bytes "mo", (weekday, 1))
+    ∷ []
+
+-- of two letters
+abbrev pub two : List Row
+two =
+    (bytes "mo", (weekday, 1))
     ∷ (bytes "tu", (weekday, 2))
     ∷ (bytes "we", (weekday, 3))
     ∷ (bytes "th", (weekday, 4))
@@ -78,6 +91,10 @@ names =
     ∷ (bytes "PH", (holiday, 1))
     ∷ (bytes "SH", (holiday, 2))
     ∷ []
+
+-- the names by their length, the longest first
+unfoldable pub names : List Row
+names = seven ++ six ++ four ++ three ++ two
 
 -- `PH`, `SH`, `week`, `day`, `days` are spelled so: the kinds from `holiday` on
 unfoldable pub spelledSo : ℕ → Bool

@@ -1,11 +1,13 @@
--- The names as the code lays them out, by their first two letters.
-use Prim.Native.Nat.{ℕ, _+_, _-_, _*_}
-use mathlib.Core.List.{List, [], _∷_, _++_, map}
+-- The names as the code writes and compares them.
+use Prim.Native.Nat.{ℕ, zero, suc, _+_}
+use mathlib.Core.List.{List, [], _∷_}
+use mathlib.Core.Bool.{Bool, true, _&&_}
 use lib.Bits.{bitOr}
-use lib.Dec.{eqb}
-use lib.ListN.{length, replicate, drop}
+use lib.Dec.{eqb, ltb}
+use lib.ListN.{length, getD, take, drop}
 use Rattle.names.specs.Tests.{if_then_else_}
-use Rattle.names.specs.Names.{Row, names, spelledSo}
+use Rattle.names.specs.Read.{Read, got, none, refused, Reader}
+use Rattle.names.specs.Names.{Row, Word, spelledSo}
 
 -- with the bit 32: a capital becomes its small letter, and nothing but a letter becomes a letter
 unfoldable pub fold : ℕ → ℕ
@@ -15,38 +17,30 @@ fold b = bitOr b 32
 unfoldable pub compared : ℕ → ℕ → ℕ
 compared kind b = if spelledSo kind then b else fold b
 
--- two letters, folded, as one number
-abbrev pub key : ℕ → ℕ → ℕ
-key b c = fold b * 256 + fold c
+-- whether these letters of a name of this kind stand here, compared so
+unfoldable pub stand : ℕ → List ℕ → List ℕ → ℕ → Bool
+stand kind [] s i = true
+stand kind (x ∷ xs) s i = eqb (compared kind (getD s i 0)) x && stand kind xs s (i + 1)
 
--- the first two of a name's letters
-unfoldable pub keyOf : List ℕ → ℕ
-keyOf (x ∷ y ∷ xs) = key x y
-keyOf (x ∷ []) = 0
-keyOf [] = 0
+-- the first of these names that stands here, compared so
+unfoldable pub firstIn : List Row → Reader Word
+firstIn [] s i = none
+firstIn (r ∷ rs) s i = if stand (r .1 .0) (r .0) s i then got (r .1) (i + length (r .0)) else firstIn rs s i
 
--- those of the names that begin so
-unfoldable pub beginning : ℕ → List Row → List Row
-beginning k [] = []
-beginning k (r ∷ rs) = if eqb (keyOf (r .0)) k then r ∷ beginning k rs else beginning k rs
+-- what was found before, or else this
+abbrev pub orElse : Read Word → Read Word → Read Word
+orElse (got w j) r = got w j
+orElse none r = r
+orElse (refused k p) r = refused k p
 
--- how many letters of a name of this kind its first two letters tell: none where a capital and its small letter are not the same
-unfoldable pub told : ℕ → ℕ
-told kind = if spelledSo kind then 0 else 2
+-- the names of a kind that are written from a place on, n letters each with a blank between them: the first has the value v, each later one 1 more.
+-- With the fuel m, at most m names
+unfoldable pub rowsIn : ℕ → ℕ → ℕ → ℕ → List ℕ → ℕ → List Row
+rowsIn zero n kind v xs from = []
+rowsIn (suc m) n kind v xs from =
+    if ltb (length xs) (from + n) then []
+    else (take n (drop from xs), (kind, v)) ∷ rowsIn m n kind (v + 1) xs (from + (n + 1))
 
--- letters as a number in base 256, the last of them foremost
-unfoldable pub packed : List ℕ → ℕ
-packed [] = 0
-packed (x ∷ xs) = packed xs * 256 + x
-
--- a name's letters that are left to tell, and behind them 16 times its kind with which of its kind it is
-abbrev pub rowOf : Row → ℕ
-rowOf r = packed (drop (told (r .1 .0)) (r .0)) * 256 + (r .1 .0 * 16 + r .1 .1)
-
--- the rows of these names, and zeros up to four rows
-abbrev pub padded : List Row → List ℕ
-padded rs = map rowOf rs ++ replicate (4 - length rs) 0
-
--- the rows of the names that begin so
-unfoldable pub rowsOf : ℕ → List ℕ
-rowsOf k = padded (beginning k names)
+-- all of them, with fuel enough
+unfoldable pub rows : ℕ → ℕ → ℕ → List ℕ → List Row
+rows n kind v xs = rowsIn (suc (length xs)) n kind v xs 0

@@ -1,5 +1,6 @@
 -- `names::table::letter` meets its contract.
 use borrow.Author.Tests.{le-leb, lt-leb}
+use native.Mathlib.Omega.{arith}
 use Rattle.names.specs.Names.{spelledSo}
 use Rattle.names.specs.Table.{fold, compared}
 use Rattle.names.proofs.table.letter.Statement.{statement}
@@ -10,5 +11,5 @@ unfolding spelledSo fold compared
 letter-spec =
     tie.close
     (tie.spec
-    (λ c. rw (le-leb 6 (c .before .args .kind) (c .if1 .taken)))  -- returns
-    (λ c. rw (lt-leb 6 (c .before .args .kind) (c .if1 .left))))  -- returns-2
+    (λ c. rw (le-leb 6 (c .before .args .kind) (omega arith)))  -- returns
+    (λ c. rw (lt-leb 6 (c .before .args .kind) (omega arith))))  -- returns-2
