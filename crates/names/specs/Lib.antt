@@ -5,6 +5,7 @@ pub mod Chain
 pub mod Texts
 pub mod Numbers
 pub mod Names
+pub mod Longest
 pub mod Spellings
 pub mod Table
 pub mod Seen
