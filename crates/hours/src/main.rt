@@ -1,4 +1,5 @@
 // Reads a sheet from standard input and writes what it says: the answer's four numbers and each record, one line each.
+// Its file `stdin` is a sheet of 4,097 bytes of which the first 4,096 would be accepted; `stdout` is the second reader's: python3 tools/reference.py sheets crates/hours/stdin
 ghost use Prim.Native.Nat.{_≤_};
 ghost use lib.ListN.{length};
 use libc::STDIN_FILENO;
