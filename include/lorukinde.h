@@ -12,7 +12,7 @@ extern "C" {
 /* Of each call the caller keeps this: no pointer is null, not even one with the length 0; each points to so many bytes, or
  * to one number, that are initialised; what a call writes to (table, and each number) overlaps nothing else that it is given.
  * A call keeps no pointer, allocates nothing, and changes nothing else. It answers for any bytes and any numbers.
- * A reading takes about 80 kilobytes of stack. */
+ * A reading takes about 4 kilobytes of stack. */
 
 /* A record is 64 bytes of the table: 16 words of 32 bits, signed (two's complement), each little-endian. A rule's head comes
  * first, then its items in reading order. Unused words are 0.

@@ -15,7 +15,7 @@ use Rattle.names.specs.Chain.{before, last, chain}
 use Rattle.names.specs.Texts.{byte}
 use Rattle.names.proofs.Local.{Stop, stop-at, Side, At, Ends, Past, moved, keep, Local, next-at, stays}
 use Rattle.names.proofs.Cut.{blanks-local}
-use Rattle.rules.specs.Musts.{missing, must}
+use Rattle.items.specs.Musts.{missing, must}
 use Rattle.rules.specs.Rules.{Rule, commaBlank, bars, separator, next}
 use Rattle.rules.specs.declared.Next.{Next}
 use Rattle.rules.specs.declared.Next.the-variants.{Another, Finished}

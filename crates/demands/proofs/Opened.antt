@@ -8,6 +8,7 @@ use Rattle.names.specs.Spellings.{allSmall, written, spelt, warns}
 use Rattle.names.specs.Tests.{within}
 use Rattle.names.specs.Texts.{byte, allOf, blanks, blank, comma}
 use Rattle.calendar.specs.Calendar.{leap, lastOfFebruary, hasThirty, lastOf, isDay}
+use Rattle.records.specs.Tables.{laid}
 use Rattle.records.specs.Words.{wordsOf}
 use Rattle.times.specs.Meanings.{dayClock, endClock, repeatClock, spanMeaning}
 use Rattle.times.specs.Spans.{repeated, tail, untilTime, spanBehind, spanShape, timeItem, eventItemBehind}
@@ -24,20 +25,20 @@ use Rattle.dates.specs.Ranges.{stepped, untilLast, goodRange, stepOf}
 use Rattle.dates.specs.Weeks.{weekShape, weekMeaning, weekItem}
 use Rattle.dates.specs.Years.{yearBehind, yearShape, yearMeaning, yearItem, yearItemBehind}
 use Rattle.rules.specs.Comments.{isInner, comment, commentApart}
-use Rattle.rules.specs.Firsts.{weeks, small, weeksOrSmall, behindYears, first, colon, anyDay}
-use Rattle.rules.specs.Heads.{headWords}
-use Rattle.rules.specs.Modifiers.{withComment, modifier, selected}
-use Rattle.rules.specs.Musts.{missing}
-use Rattle.rules.specs.Pieces.{more, weekdayStage, holidayStage, end}
+use Rattle.items.specs.Kinds.{weeks, itemOf, itemIn}
+use Rattle.rules.specs.Rows.{listed, following, isWide}
+use Rattle.rules.specs.Modifiers.{withComment, modifier}
+use Rattle.items.specs.Musts.{missing}
+use Rattle.rules.specs.Pieces.{goesOn, colonSign, colon, more, plainEnd, end}
 use Rattle.rules.specs.Rules.{always, wideComment, opening, wins, behind, rule, commaBlank, bars, separator, next}
-use Rattle.rules.specs.Tables.{laid}
+use Rattle.sheet.specs.Heads.{headWords}
 use Rattle.sheet.specs.PartReadings.{withNext, partOf, partReading}
 use Rattle.sheet.specs.Parts.{partIn, begins, partEnd, beginnings}
-use Rattle.sheet.specs.Sheets.{textOf, sheetOf, textReading, sheetReading}
+use Rattle.sheet.specs.Sheets.{textOf, sheetOf, sheetReading}
 use Rattle.sheet.specs.Texts.{parted, moreRules, noMore, rules, records}
 use Rattle.sheet.specs.Warnings.{isLetter, warningsIn}
 
 -- nothing, over the line that opens them
 unfoldable pub opened : Unit {0}
-unfolding chainIn chain many skip names spelledSo lower letter firstOf word name isDigit digit upTo digits clockBehind number insideOf one ahead atEnd allSmall written spelt warns within byte allOf blanks blank comma leap lastOfFebruary hasThirty lastOf isDay wordsOf dayClock endClock repeatClock spanMeaning repeated tail untilTime spanBehind spanShape timeItem eventItemBehind clock moved movedEvent rawTime backEntry frontEntry entry nextEntry setAll goodEntry marked markedAll entries bits holidayBehind holidayShape holidayMeaning holidayItem holidayItemBehind plusOrMinus dayOffset anyDays wdayOffset offset untilWeekday withEntries weekdayBehind weekdayShape flagged weekdayMeaning weekdayItem weekdayItemBehind optionalYear backNth frontNth nth weekdayOf dayOf dayBehind date untilDate bareDay until endShape datesBehind nextYear nextMonth monthFrom firstWith bareEnd lastDay dateMeaning monthMeaning lastMonth monthBehind monthItemBehind dateItemBehind monthDayBehind monthDayItem stepped untilLast goodRange stepOf weekShape weekMeaning weekItem yearBehind yearShape yearMeaning yearItem yearItemBehind isInner comment commentApart weeks small weeksOrSmall behindYears first colon anyDay headWords withComment modifier selected missing more weekdayStage holidayStage end always wideComment opening wins behind rule commaBlank bars separator next laid withNext partOf partReading partIn begins partEnd beginnings textOf sheetOf textReading sheetReading parted moreRules noMore rules records isLetter warningsIn
+unfolding chainIn chain many skip names spelledSo lower letter firstOf word name isDigit digit upTo digits clockBehind number insideOf one ahead atEnd allSmall written spelt warns within byte allOf blanks blank comma leap lastOfFebruary hasThirty lastOf isDay wordsOf dayClock endClock repeatClock spanMeaning repeated tail untilTime spanBehind spanShape timeItem eventItemBehind clock moved movedEvent rawTime backEntry frontEntry entry nextEntry setAll goodEntry marked markedAll entries bits holidayBehind holidayShape holidayMeaning holidayItem holidayItemBehind plusOrMinus dayOffset anyDays wdayOffset offset untilWeekday withEntries weekdayBehind weekdayShape flagged weekdayMeaning weekdayItem weekdayItemBehind optionalYear backNth frontNth nth weekdayOf dayOf dayBehind date untilDate bareDay until endShape datesBehind nextYear nextMonth monthFrom firstWith bareEnd lastDay dateMeaning monthMeaning lastMonth monthBehind monthItemBehind dateItemBehind monthDayBehind monthDayItem stepped untilLast goodRange stepOf weekShape weekMeaning weekItem yearBehind yearShape yearMeaning yearItem yearItemBehind isInner comment commentApart weeks itemOf itemIn listed following isWide goesOn colonSign colon headWords withComment modifier missing more plainEnd end always wideComment opening wins behind rule commaBlank bars separator next laid withNext partOf partReading partIn begins partEnd beginnings textOf sheetOf sheetReading parted moreRules noMore rules records isLetter warningsIn
 opened = tt

@@ -14,10 +14,10 @@ use Rattle.names.proofs.Local.{stop-end, Ends, moved}
 use Rattle.records.specs.Words.{record16, wordsOf}
 use Rattle.records.specs.declared.Item.{Item}
 use Rattle.records.specs.declared.Item.the-variants.{Years, Months, Dates, Weeks, Weekdays, Holidays, Times}
-use Rattle.rules.specs.Heads.{headWords}
 use Rattle.rules.specs.Rules.{Rule}
 use Rattle.rules.specs.declared.Head.{Head}
 use Rattle.rules.proofs.Cut.{startMoves, headMoves, ruleMoves}
+use Rattle.sheet.specs.Heads.{headWords}
 use Rattle.sheet.specs.Texts.{rules, records}
 use Rattle.sheet.specs.Warnings.{warningsOf}
 use Rattle.sheet.specs.Sheets.{answerOf, refusal, judgedText, textOf}

@@ -15,8 +15,7 @@ use Rattle.names.specs.Tests.{if_then_else_}
 use Rattle.names.specs.Read.{Read, got, none, refused}
 use Rattle.names.proofs.Local.{Ends, stop-end}
 use Rattle.rules.specs.Rules.{Rule}
-use Rattle.rules.specs.Tables.{ruleRecords}
-use Rattle.sheet.specs.Texts.{rules, records}
+use Rattle.sheet.specs.Texts.{rules, ruleRecords, records}
 use Rattle.sheet.specs.Sheets.{answerOf, refusal, judgedText, textOf, sheetOf}
 use Rattle.sheet.specs.Warnings.{warningsOf}
 use Rattle.sheet.specs.Parts.{partEnd, begins, places}

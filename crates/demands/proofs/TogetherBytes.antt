@@ -8,11 +8,11 @@ use lib.ListN.{length, set, length-append, length-set}
 use lib.Seq.{sets, length-sets}
 use Rattle.records.specs.Bytes.{littleEndian, wordBytes, recordBytes}
 use Rattle.records.proofs.Stores.{length-bytes}
-use Rattle.rules.specs.Tables.{asWords, asBytes, laid}
+use Rattle.records.proofs.Cells.{Sixteen}
+use Rattle.records.specs.Tables.{asWords, asBytes, laid}
 use Rattle.sheet.specs.Sheets.{writtenAs, sheetOf, sheetReading, wordsIn, sheetReadingBytes}
 use Rattle.sheet.specs.PartReadings.{partOf, partReading, partReadingBytes}
-use Rattle.sheet.proofs.Copies.{Sixteen}
-use Rattle.demands.proofs.TogetherWords.{part-held, sheet-held}
+use Rattle.sheet.proofs.Readings.{part-held, sheet-held}
 
 module _ (rest : List ℕ) where
   -- a word's bytes stored in the bytes of words

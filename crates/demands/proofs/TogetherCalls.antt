@@ -9,7 +9,7 @@ use native.Mathlib.Decide.{decLt}
 use lib.IntN.{ℤ}
 use lib.ListN.{length}
 use Rattle.names.specs.Tests.{if_then_else_}
-use Rattle.rules.specs.Tables.{laid, overlay}
+use Rattle.records.specs.Tables.{laid, overlay}
 use Rattle.sheet.specs.Parts.{partEnd, begins, places}
 use Rattle.sheet.specs.Sheets.{sheetReading}
 use Rattle.sheet.specs.PartReadings.{partOf, partReading}

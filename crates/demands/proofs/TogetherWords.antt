@@ -1,26 +1,19 @@
 -- The table after an accepted sheet is read: the words that reading each of its parts writes, one part after another, and the rest of the table as it was.
-use Prim.Native.Nat.{ℕ, _*_, _≤_, _/_}
+use Prim.Native.Nat.{ℕ, _*_, _≤_}
 use mathlib.Core.List.{List, [], _∷_, _++_, append-assoc}
-use mathlib.Core.Bool.{Bool, true, false, not}
 use mathlib.Core.Path.{_≡_, refl, sym, ap, _∙_}
 use native.Mathlib.Omega.{arith}
 use native.Mathlib.Nat.{div-mul-le-self}
-use lib.Dec.{ltb}
 use lib.IntN.{ℤ}
 use lib.ListN.{length, take, drop}
-use borrow.Author.Tests.{ltb-false}
-use Rattle.names.specs.Tests.{if_then_else_}
-use Rattle.names.specs.Read.{Read, got, none, refused}
-use Rattle.rules.specs.Rules.{Rule}
-use Rattle.rules.specs.Tables.{asWords, overlay}
-use Rattle.sheet.specs.Texts.{rules, records}
-use Rattle.sheet.specs.Sheets.{answerOf, refusal, judgedText, textOf, sheetOf, sheetReading}
-use Rattle.sheet.specs.Warnings.{warningsOf}
-use Rattle.sheet.specs.Parts.{partEnd, begins, places}
-use Rattle.sheet.specs.PartReadings.{withNext, partOf, partReading}
-use Rattle.sheet.specs.declared.PartAnswer.{PartAnswer}
-use Rattle.sheet.proofs.Copies.{Sixteen, records-sixteen, words-wide, cellsOf, front-split, front-taken}
-use Rattle.demands.proofs.Together.{Reading, PartReading, inOrder, together}
+use Rattle.records.specs.Tables.{asWords, overlay}
+use Rattle.records.proofs.Keeps.{words-wide}
+use Rattle.records.proofs.Cells.{cellsOf, front-split, front-taken}
+use Rattle.sheet.specs.Sheets.{sheetOf, sheetReading}
+use Rattle.sheet.specs.Parts.{places}
+use Rattle.sheet.specs.PartReadings.{partOf, partReading}
+use Rattle.sheet.proofs.Readings.{Held, part-held, sheet-held}
+use Rattle.demands.proofs.Together.{inOrder, together}
 
 -- ---- the words of records
 
@@ -30,50 +23,6 @@ words-append [] b = refl
 words-append (r ∷ a) b = rw (words-append a b) (sym (append-assoc r (cellsOf asWords a) (cellsOf asWords b)))
 
 -- ---- calls
-
--- a reading's records are as many as it says, of 16 words each, and a table of n words holds them
-pub record Held (n count : ℕ) (rs : List (List ℤ)) : Type 0 where
-  pub many : count ≡ length rs
-  pub long : Sixteen rs
-  pub room : length rs ≤ n / 16
-
--- no records
-held-none : (n : ℕ) → Held n 0 []
-held-none n = record { many = refl; long = tt; room = omega arith }
-
--- those of a text
-text-held : (s : List ℕ) (p n : ℕ) → Held n (textOf s p n .0 .records) (textOf s p n .1)
-unfolding textOf
-text-held s p n = go (rules s p)
-  where
-    kept : (l : List Rule) (full : Bool) → ltb (n / 16) (length (records l)) ≡ full →
-        Held n ((if full then refusal 10 p else (answerOf 0 0 (length (records l)) (warningsOf (drop p s)), records l)) .0 .records) ((if full then refusal 10 p else (answerOf 0 0 (length (records l)) (warningsOf (drop p s)), records l)) .1)
-    kept l true e = held-none n
-    kept l false e = record { many = refl; long = records-sixteen l; room = ltb-false (n / 16) (length (records l)) e }
-
-    go : (x : Read (List Rule × Unit {0})) → Held n (judgedText s p n x .0 .records) (judgedText s p n x .1)
-    go (got l j) = kept (l .0) (ltb (n / 16) (length (records (l .0)))) refl
-    go none = held-none n
-    go (refused k q) = held-none n
-
--- what holds of both holds of either
-either : {A : Type 0} (P : A → Type 0) (c : Bool) {a b : A} → P a → P b → P (if c then a else b)
-either P true h k = h
-either P false h k = k
-
--- of a part
-pub part-held : (s : List ℕ) (p n : ℕ) → Held n (partOf s p n .0 .records) (partOf s p n .1)
-unfolding partOf withNext
-part-held s p n =
-    let P : PartReading → Type 0 = λ r. Held n (r .0 .records) (r .1) in
-    let u = take (partEnd s p) s in
-    let h = text-held u p n in
-    either P (ltb 4096 (length s)) (held-none n) (either P (not (begins s p)) (held-none n) (either (λ (a : PartAnswer). Held n (a .records) (textOf u p n .1)) (ltb (partEnd s p) (length s)) h h))
-
--- and of a sheet
-pub sheet-held : (s : List ℕ) (n : ℕ) → Held n (sheetOf s n .0 .records) (sheetOf s n .1)
-unfolding sheetOf
-sheet-held s n = either (λ (r : Reading). Held n (r .0 .records) (r .1)) (ltb 4096 (length s)) (held-none n) (text-held s 0 n)
 
 module _ (t : List ℤ) {count : ℕ} (rs : List (List ℤ)) (h : Held (length t) count rs) where
   -- the table has room for such records

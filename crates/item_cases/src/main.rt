@@ -2,13 +2,18 @@
 // Writes each line whose answer is another, with that answer, and at the end how many lines were read.
 ghost use Prim.Native.Nat.{_≤_};
 ghost use lib.ListN.{length};
-use items::Kind;
-use items::item_of;
+use items::HOLIDAYS;
+use items::MONTH_DAYS;
+use items::Stands;
+use items::TIMES;
+use items::WEEKDAYS;
+use items::WEEK_NUMBERS;
+use items::YEARS;
+use items::look_at;
 use libc::STDIN_FILENO;
 use libc::STDOUT_FILENO;
 use names::Cursor;
 use prints::size;
-use records::ItemRead;
 use records::words_of;
 
 // A line that is being written: bytes past its end are left out.
@@ -73,27 +78,28 @@ impl Text {
     }
 }
 
-// The kind of list that a digit stands for, by the number of its records.
-fn kind_of(b: u8) -> Kind {
+// The set of the kind of list that a digit stands for, by the number of its records.
+fn kind_of(b: u8) -> u16 {
     match b {
-        50 => Kind::Years,
-        51 => Kind::MonthDays,
-        53 => Kind::Weeks,
-        54 => Kind::Weekdays,
-        55 => Kind::Holidays,
-        _ => Kind::Times,
+        b'2' => YEARS,
+        b'3' => MONTH_DAYS,
+        b'5' => WEEK_NUMBERS,
+        b'6' => WEEKDAYS,
+        b'7' => HOLIDAYS,
+        _ => TIMES,
     }
 }
 
 // An answer as a line shows it.
-fn shown(r: ItemRead) -> Text {
+fn shown(r: Stands) -> Text {
     match r {
-        ItemRead::Got(item, c) => Text::new()
+        Stands::Item(item, _, c) => Text::new()
             .put_words(words_of(item))
             .put_all(b"to ")
             .put_number(c.at as u64),
-        ItemRead::Missing => Text::new().put_all(b"none"),
-        ItemRead::Refused(k, _) => Text::new().put_all(b"refused ").put_number(k as u64),
+        Stands::Refused(k, _) => Text::new().put_all(b"refused ").put_number(k as u64),
+        Stands::Name(_, _, _) => Text::new().put_all(b"none"),
+        Stands::Nothing => Text::new().put_all(b"none"),
     }
 }
 
@@ -114,7 +120,7 @@ fn find(s: &[u8], from: usize, b: u8) -> usize
 
 // Whether an item is read as it should be; if not, what it gives is written.
 fn right(kind: u8, text: &[u8], answer: &[u8]) -> bool {
-    let t = shown(item_of(kind_of(kind), text, Cursor { at: 0 }));
+    let t = shown(look_at(text, Cursor { at: 0 }, kind_of(kind)));
     let bytes = t.bytes;
     // (`count` says that the length is within the bytes.)
     let n = io::count(t.len as isize, &bytes);

@@ -1,1 +1,4 @@
+pub mod Musts
 pub mod Kinds
+pub mod Sets
+pub mod Seen

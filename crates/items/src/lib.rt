@@ -1,36 +1,49 @@
-// An item of a given kind, so that a list of any kind is one loop.
-ghost use mathlib.Core.Path.{_≡_};
-ghost use Rattle.records.specs.Seen.{seenItem};
-ghost use Rattle.items.specs.Kinds.{itemOf};
-use dates::month_day_item;
-use dates::week_item;
-use dates::year_item;
-use days::holiday_item;
-use days::weekday_item;
-use names::Cursor;
-use records::ItemRead;
-use times::time_item;
+// Items of any kind: one look at a place, and the item that stands there, if it is wanted.
+mod kinds;
+mod looks;
+mod musts;
 
-// The kinds of lists.
+pub use kinds::HOLIDAYS;
+pub use kinds::LAST_HOLIDAYS;
+pub use kinds::LAST_WEEKDAYS;
+pub use kinds::MONTH_DAYS;
+pub use kinds::NO_KIND;
+pub use kinds::TIMES;
+pub use kinds::WEEKDAYS;
+pub use kinds::WEEKS;
+pub use kinds::WEEK_NUMBERS;
+pub use kinds::YEARS;
+pub use looks::look_at;
+use names::Cursor;
+use records::Item;
+
+// The kinds of items in a rule.
 pub enum Kind {
     Years,
     MonthDays,
+    // `week` and its first number
     Weeks,
+    // a week list's other numbers
+    WeekNumbers,
     Weekdays,
+    // weekdays after holidays
+    LastWeekdays,
     Holidays,
+    // holidays after weekdays
+    LastHolidays,
     Times,
 }
 
-// An item of a list of this kind.
-pub fn item_of(kind: Kind, s: &[u8], c: Cursor) -> ItemRead
-    ensures { λ r. ⌜ itemOf kind (now (s .entry)) (c .at) ≡ seenItem r ⌝ }
-{
-    match kind {
-        Kind::Years => year_item(s, c),
-        Kind::MonthDays => month_day_item(s, c),
-        Kind::Weeks => week_item(s, c),
-        Kind::Weekdays => weekday_item(s, c),
-        Kind::Holidays => holiday_item(s, c),
-        Kind::Times => time_item(s, c),
-    }
+// As what an item is wanted, or that it is not.
+pub enum Wish {
+    As(Kind),
+    Not,
+}
+
+// What stands at a place: an item that was wanted, its kind and the place after it; the refusal of one, its number and place; else a name, its kind, which of its kind it is and the place after it; or neither.
+pub enum Stands {
+    Item(Item, Kind, Cursor),
+    Refused(u8, usize),
+    Name(u8, u8, Cursor),
+    Nothing,
 }

@@ -1,2 +1,1 @@
 pub mod Outputs
-pub mod Slots

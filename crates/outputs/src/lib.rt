@@ -7,7 +7,7 @@ ghost use Rattle.prints.specs.Decimals.{decimal};
 ghost use Rattle.prints.specs.Lines.{line, lines};
 ghost use Rattle.prints.specs.Pens.{wrote};
 ghost use Rattle.outputs.specs.Outputs.{numbersOf, outputOf, filled, longest};
-ghost use Rattle.outputs.specs.Slots.{slots};
+ghost use Rattle.records.specs.Tables.{recordsIn};
 use prints::Pen;
 use sheet::Answer;
 use sheet::read_sheet;
@@ -41,7 +41,7 @@ fn put_answer(pen: Pen, out: &mut [u8], a: Answer) -> Pen
 fn put_records(pen: Pen, out: &mut [u8], table: &[i32], n: usize) -> Pen
     requires { ⌜ n * 16 ≤ length (now table) ⌝ }
     ensures most { λ r. ⌜ r .at ≤ pen .at + 192 * n ⌝ }
-    ensures whole { λ r. ⌜ (r .at, now (out .exit)) ≡ wrote (lines (slots n (now (table .entry)))) (pen .at) (now (out .entry)) ⌝ }
+    ensures whole { λ r. ⌜ (r .at, now (out .exit)) ≡ wrote (lines (recordsIn n (now (table .entry)))) (pen .at) (now (out .entry)) ⌝ }
 {
     let mut next = pen;
     for k in 0..n {

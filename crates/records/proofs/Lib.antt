@@ -3,3 +3,5 @@ pub mod Apart
 pub mod Cut
 pub mod Anywhere
 pub mod Stores
+pub mod Keeps
+pub mod Cells

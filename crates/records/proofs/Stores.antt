@@ -7,8 +7,8 @@ use mathlib.Core.List.{List, [], _∷_}
 use mathlib.Core.Bool.{Bool, true, false}
 use mathlib.Core.Path.{_≡_, refl}
 use lib.IntN.{ℤ, pos, negsuc}
-use lib.ListN.{length, getD, drop, set, drop-of-length-le}
-use lib.Seq.{drop-cons, sets}
+use lib.ListN.{length, getD, take, drop, set, drop-of-length-le}
+use lib.Seq.{take-suc, take-suc-set, drop-cons, sets}
 use lib.Signed.{ltZ, mag}
 use mir.Syntax.{w32}
 use mir.Val.{SFits, ofZ, toZ}
@@ -24,6 +24,10 @@ module _ {A : Type 0} (t₀ t w : List A) (at i : ℕ) (p : sets t₀ at w ≡ s
 
   pub end : length w ≤ i → t ≡ sets t₀ at w
   end h = rw (p, drop-of-length-le w h)
+
+-- in the other way: the first i of w are taken from l
+pub taken-more : {A : Type 0} (d : A) (w l : List A) (i : ℕ) {v : A} → i < length w → i < length l → v ≡ getD l i d → take i w ≡ take i l → take (i + 1) (set w i v) ≡ take (i + 1) l
+taken-more d w l i {v} h k e p = rw (add-one i, take-suc-set w i v h, take-suc l i d k, p, e)
 
 -- ---- a word's bits
 

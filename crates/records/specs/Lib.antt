@@ -1,4 +1,5 @@
 pub mod Items
 pub mod Words
 pub mod Bytes
+pub mod Tables
 pub mod Seen

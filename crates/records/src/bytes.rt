@@ -6,6 +6,7 @@ ghost use lib.Seq.{sets};
 ghost use mir.Syntax.{w32};
 ghost use mir.Val.{ofZ};
 ghost use Rattle.records.specs.Bytes.{littleEndian, recordBytes};
+ghost use Rattle.records.specs.Tables.{asBytes, kept};
 
 // The bits of a word: of a number below 0, its two's complement.
 fn bits_of(x: i32) -> u32
@@ -25,8 +26,8 @@ fn put_word(table: &mut [u8], at: usize, n: u32)
     table[at + 3] = (n / 16777216) as u8;
 }
 
-// The 64 bytes of sixteen words are stored in a slot of a table.
-pub fn store_bytes(table: &mut [u8], slot: usize, w: [i32; 16])
+// The 64 bytes of sixteen words are stored in a slot that the table has.
+fn store_bytes(table: &mut [u8], slot: usize, w: [i32; 16])
     requires { ⌜ slot * 64 + 64 ≤ length (now table) ⌝ }
     ensures { λ _. ⌜ now (table .exit) ≡ sets (now (table .entry)) (slot * 64) (recordBytes w) ⌝ }
 {
@@ -34,5 +35,14 @@ pub fn store_bytes(table: &mut [u8], slot: usize, w: [i32; 16])
     for i in 0..16 {
         put_word(table, p, bits_of(w[i]));
         p += 4;
+    }
+}
+
+// A record goes into its slot, where the table has that slot.
+pub fn keep_bytes(table: &mut [u8], slot: usize, w: [i32; 16])
+    ensures { λ _. ⌜ now (table .exit) ≡ kept asBytes (now (table .entry)) slot w ⌝ }
+{
+    if slot < table.len() / 64 {
+        store_bytes(table, slot, w);
     }
 }

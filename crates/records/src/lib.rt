@@ -2,12 +2,12 @@
 mod bytes;
 mod judge;
 mod slots;
+mod tables;
 mod words;
 
-pub use bytes::store_bytes;
 pub use judge::judged;
 use names::Cursor;
-pub use slots::store;
+pub use tables::keep;
 pub use words::words_of;
 
 // A number that is added, or taken off.

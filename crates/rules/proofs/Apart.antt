@@ -1,13 +1,16 @@
 -- No second answer meets a promise: an answer is known by what it says.
 use Prim.Native.Nat.{ℕ}
 use mathlib.Core.Path.{_≡_, refl, ap, _∙_}
-use Rattle.rules.specs.Seen.{seenComment, seenTail, thenOpening, seenNext, seenRule}
+use Rattle.rules.specs.Seen.{seenComment, seenPiece, thenOpening, seenNext, seenRule}
 use Rattle.rules.specs.declared.Opening.{Opening}
 use Rattle.rules.specs.declared.OpeningThen.{OpeningThen}
 use Rattle.rules.specs.declared.CommentRead.{CommentRead}
 use Rattle.rules.specs.declared.CommentRead.the-variants as comment
-use Rattle.rules.specs.declared.TailRead.{TailRead}
-use Rattle.rules.specs.declared.TailRead.the-variants as tail
+use Rattle.records.specs.declared.Item.{Item}
+use Rattle.rules.specs.declared.Stage.{Stage}
+use Rattle.rules.specs.declared.Stage.the-variants.{After}
+use Rattle.rules.specs.declared.Piece.{Piece}
+use Rattle.rules.specs.declared.Piece.the-variants as piece
 use Rattle.rules.specs.declared.NextRead.{NextRead}
 use Rattle.rules.specs.declared.NextRead.the-variants as next
 use Rattle.rules.specs.declared.RuleRead.{RuleRead}
@@ -19,16 +22,18 @@ comment-apart (comment.Got a c) comment.Missing e = cc
 comment-apart comment.Missing (comment.Got b d) e = cc
 comment-apart comment.Missing comment.Missing e = refl
 
-pub tail-apart : (x y : TailRead) → seenTail x ≡ seenTail y → x ≡ y
-tail-apart (tail.Got a c) (tail.Got b d) e = let h : c .at ≡ d .at = cc in let k : a ≡ b = cc in rw (k, h)
-tail-apart (tail.Got a c) tail.Missing e = cc
-tail-apart (tail.Got a c) (tail.Refused k p) e = cc
-tail-apart tail.Missing (tail.Got b d) e = cc
-tail-apart tail.Missing tail.Missing e = refl
-tail-apart tail.Missing (tail.Refused k p) e = cc
-tail-apart (tail.Refused k p) (tail.Got b d) e = cc
-tail-apart (tail.Refused k p) tail.Missing e = cc
-tail-apart (tail.Refused k p) (tail.Refused l q) e = cc
+pub piece-apart : (x y : Piece) → seenPiece x ≡ seenPiece y → x ≡ y
+piece-apart (piece.Item a k c) (piece.Item b l d) e =
+    let h : c .at ≡ d .at = cc in let z : _≡_ {A = Item × Stage} (a, After k) (b, After l) = cc in let p : a ≡ b = ap (λ (x : Item × Stage). x .0) z in let q : After k ≡ After l = ap (λ (x : Item × Stage). x .1) z in let r : k ≡ l = cc in
+    rw (p, r, h)
+piece-apart (piece.Item a k c) (piece.End t d) e = cc
+piece-apart (piece.Item a k c) (piece.Refused n p) e = cc
+piece-apart (piece.End t c) (piece.Item b l d) e = cc
+piece-apart (piece.End t c) (piece.End u d) e = let h : c .at ≡ d .at = cc in let k : t ≡ u = cc in rw (k, h)
+piece-apart (piece.End t c) (piece.Refused n p) e = cc
+piece-apart (piece.Refused n p) (piece.Item b l d) e = cc
+piece-apart (piece.Refused n p) (piece.End u d) e = cc
+piece-apart (piece.Refused n p) (piece.Refused m q) e = cc
 
 pub next-apart : (x y : NextRead) → seenNext x ≡ seenNext y → x ≡ y
 next-apart (next.Got a c) (next.Got b d) e = let h : c .at ≡ d .at = cc in let k : a ≡ b = cc in rw (k, h)

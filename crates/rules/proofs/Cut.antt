@@ -12,26 +12,24 @@ use Rattle.names.specs.Read.{Read, got, none, refused, Reader, follow, branch, 
 use Rattle.names.specs.Chain.{skip, chain}
 use Rattle.names.specs.Texts.{byte, bytes}
 use Rattle.names.specs.Names as names
-use Rattle.names.proofs.Local.{Tail as Behind, Ended, Stop, moved, keep, Local, past, past-one, narrow, loose, free, by, nothing-local, pure-local, refuse-local, here-local, branch-moved, bind-local, then-local, then-moved, map-local, or-local, maybe-local, inner-local, quote-local, ahead-local}
+use Rattle.names.proofs.Local.{Tail as Behind, Ended, Stop, moved, keep, Local, past, past-one, narrow, loose, free, by, nothing-local, pure-local, refuse-local, here-local, branch-moved, bind-local, then-local, then-moved, map-local, or-local, maybe-local, inner-local, quote-local, ahead-local, only-local}
 use Rattle.names.proofs.Ended.{one-ended, byte-ended, atEnd-ended}
 use Rattle.names.proofs.Chains.{step-moves, chain-moves, chain-local, chain-takes, many-local}
 use Rattle.names.proofs.Cut.{byte-local, blanks-local, blank-local, comma-local}
 use Rattle.names.proofs.NameCut.{plain, allOf-local, name-local}
 use Rattle.records.specs.declared.Item.{Item}
-use Rattle.records.proofs.Cut.{Alike}
-use Rattle.times.proofs.Cut.{timeItem-alike}
-use Rattle.days.proofs.Cut.{weekdayItem-alike, holidayItem-alike}
-use Rattle.dates.proofs.Cut.{yearItem-alike, weekItem-alike, monthDayItem-alike}
-use Rattle.rules.specs.Musts.{missing, must}
+use Rattle.items.specs.Kinds.{apart}
+use Rattle.items.specs.declared.Kind.{Kind}
+use Rattle.items.proofs.Cut.{must-local, itemIn-alike}
 use Rattle.rules.specs.Comments.{commentOf, noComment, isInner, comment, commentApart}
-use Rattle.rules.specs.Modifiers.{tailOf, withComment, modifier, selected}
-use Rattle.rules.specs.Firsts.{apart, listed, weeks, small, weeksOrSmall, behindYears, first, colon, anyDay}
-use Rattle.rules.specs.Pieces.{more, stageBehind, piece, end}
+use Rattle.rules.specs.Modifiers.{tailOf, withComment, modifier}
+use Rattle.rules.specs.Rows.{small, first, listed, following, isWide}
+use Rattle.rules.specs.Pieces.{itemFrom, goesOn, afterColon, colonSign, colon, more, plainEnd, end}
 use Rattle.rules.specs.Rules.{openingOf, always, wideComment, opening, wins, Rule, ruleOf, behind, rule, commaBlank, bars, separator, next}
 use Rattle.rules.specs.declared.Comment.{Comment}
 use Rattle.rules.specs.declared.Opening.{Opening}
 use Rattle.rules.specs.declared.Stage.{Stage}
-use Rattle.rules.specs.declared.Stage.the-variants.{Beginning, Always, Colon, Years, MonthDays, Weeks, Weekdays, Holidays, LastHolidays, LastWeekdays, Times}
+use Rattle.rules.specs.declared.Stage.the-variants.{Beginning, Always, Colon, After}
 use Rattle.rules.specs.declared.Tail.{Tail}
 use Rattle.rules.specs.declared.Head.{Head}
 use Rattle.rules.specs.declared.Next.the-variants.{Another, Finished}
@@ -62,17 +60,6 @@ ruleMoves n r = (headMoves n (r .0), r .1)
 -- the items of a rule hold no place; its end does
 abbrev pub piecesMoves : ℕ → List Item × Tail → List Item × Tail
 piecesMoves n r = (r .0, tailMoves n (r .1))
-
--- ---- what has to stand at a place
-
-pub missing-local : {A : Type 0} {sh : ℕ → A → A} {u : List ℕ} {k : ℕ} → Local Stop sh u false false k missing missing
-unfolding missing
-missing-local {A} {k = k} =
-    let f : ℕ → Reader A = refuse 3 in
-    loose (bind-local blanks-local (λ _. branch-moved {l = k} f f here-local (λ p. refuse-local 3 p (omega arith)) nothing-local)) (omega arith)
-
-pub must-local : {A : Type 0} {sh : ℕ → A → A} {u : List ℕ} {k : ℕ} {m′ m : Reader A} → Local Stop sh u false false k m′ m → Local Stop sh u false false k (must m′) (must m)
-must-local M = or-local M missing-local
 
 -- ---- comments
 
@@ -151,8 +138,8 @@ pub modifier-local : {u : List ℕ} → Local Stop tailMoves u false false 1 mod
 unfolding modifier
 modifier-local = or-local (then-local (name-local names.modifier) withComment-local) (map-local (tailOf 0) (tailOf 0) (λ c. refl) comment-local)
 
-pub selected-local : {u : List ℕ} → Local Stop tailMoves u false false 0 selected selected
-unfolding selected
+-- a modifier after a blank, or none
+selected-local : {u : List ℕ} → Local Stop tailMoves u false false 0 (branch (apart modifier) pure (pure (tailOf 0 noComment))) (branch (apart modifier) pure (pure (tailOf 0 noComment)))
 selected-local = maybe-local (bind-local blank-local (λ _. modifier-local)) (tailOf 0 noComment)
 
 -- ---- openings
@@ -167,93 +154,54 @@ wideComment-local =
     let f : Comment → Reader Opening = λ c. branch (byte 58) (λ _. pure (openingOf Colon c)) nothing in
     branch-moved f f comment-local (λ c. then-local (byte-local 58 refl refl) (λ _. pure-local (openingOf Colon c))) nothing-local
 
--- ---- the first items of lists
-
-module _ {u : List ℕ} where
-  pub apart-alike : {k : ℕ} {m : Reader Item} → Alike u k m → Alike u 1 (apart m)
-  apart-alike M = then-local blank-local (λ _. free M)
-
-  pub listed-alike : {k : ℕ} {m : Reader Item} → Alike u k m → Alike u 1 (listed m)
-  listed-alike M = then-local comma-local (λ _. must-local (free M))
-
-  pub weeks-alike : Alike u 1 weeks
-  unfolding weeks
-  weeks-alike = then-local (name-local names.week) (λ _. must-local (free (apart-alike weekItem-alike)))
-
-  pub small-alike : Alike u 1 small
-  unfolding small
-  small-alike = or-local weekdayItem-alike (or-local holidayItem-alike timeItem-alike)
-
-  pub weeksOrSmall-alike : Alike u 1 weeksOrSmall
-  unfolding weeksOrSmall
-  weeksOrSmall-alike = or-local weeks-alike small-alike
-
-  pub behindYears-alike : Alike u 1 behindYears
-  unfolding behindYears
-  behindYears-alike = or-local monthDayItem-alike weeksOrSmall-alike
-
-  pub first-alike : Alike u 1 first
-  unfolding first
-  first-alike = or-local monthDayItem-alike (or-local (loose yearItem-alike (omega arith)) weeksOrSmall-alike)
-
-  pub colon-alike : Alike u 1 colon
-  unfolding colon
-  colon-alike = then-local (byte-local 58 refl refl) (λ _. must-local (free (apart-alike small-alike)))
-
-  pub anyDay-alike : Alike u 1 anyDay
-  unfolding anyDay
-  anyDay-alike = or-local weekdayItem-alike holidayItem-alike
-
 -- ---- pieces
 
 module _ {u : List ℕ} where
-  pub more-alike : (x : Stage) → Alike u 1 (more x)
-  unfolding more
-  more-alike Beginning = first-alike
-  more-alike Always = nothing-local
-  more-alike Colon = must-local (apart-alike small-alike)
-  more-alike Years = or-local (listed-alike yearItem-alike) (or-local colon-alike (apart-alike behindYears-alike))
-  more-alike MonthDays = or-local (listed-alike monthDayItem-alike) (or-local colon-alike (apart-alike weeksOrSmall-alike))
-  more-alike Weeks = or-local (listed-alike weekItem-alike) (or-local colon-alike (apart-alike small-alike))
-  more-alike Weekdays = or-local (listed-alike anyDay-alike) (apart-alike timeItem-alike)
-  more-alike Holidays = or-local (listed-alike anyDay-alike) (apart-alike timeItem-alike)
-  more-alike LastHolidays = or-local (listed-alike holidayItem-alike) (apart-alike timeItem-alike)
-  more-alike LastWeekdays = or-local (listed-alike weekdayItem-alike) (apart-alike timeItem-alike)
-  more-alike Times = listed-alike timeItem-alike
+  -- an item and the stage after it hold no place
+  pub itemFrom-alike : (ks : List Kind) → Local Stop (step-moves keep) u false false 1 (itemFrom ks) (itemFrom ks)
+  itemFrom-alike ks = map-local (λ a. (a .0, After (a .1))) (λ a. (a .0, After (a .1))) (λ a. refl) (itemIn-alike ks)
 
-  pub piece-local : (x : Stage) → Local Stop (step-moves keep) u false false 1 (piece x) (piece x)
-  piece-local x = map-local (λ a. (a, stageBehind x a)) (λ a. (a, stageBehind x a)) (λ a. refl) (more-alike x)
+  pub afterColon-alike : Local Stop (step-moves keep) u false false 1 afterColon afterColon
+  afterColon-alike = must-local (then-local blank-local (λ _. free (itemFrom-alike small)))
+
+  goesOn-alike : (k : Kind) → Local Stop (step-moves keep) u false false 1 (goesOn k) (goesOn k)
+  unfolding goesOn
+  goesOn-alike k = then-local comma-local (λ _. free (must-local (itemFrom-alike (listed k))))
+
+  colon-alike : (k : Kind) → Local Stop (step-moves keep) u false false 1 (colon k) (colon k)
+  unfolding colon colonSign
+  colon-alike k = then-local (loose (bind-local {k = 0} (only-local (isWide k)) (λ _. byte-local 58 refl refl)) (omega arith)) (λ _. free afterColon-alike)
+
+  pub more-local : (x : Stage) → Local Stop (step-moves keep) u false false 1 (more x) (more x)
+  unfolding more
+  more-local Beginning = itemFrom-alike first
+  more-local Always = nothing-local
+  more-local Colon = afterColon-alike
+  more-local (After k) = or-local (goesOn-alike k) (or-local (colon-alike k) (then-local blank-local (λ _. free (itemFrom-alike (following k)))))
 
   pub end-local : (x : Stage) → Local Stop tailMoves u false false 0 (end x) (end x)
-  unfolding end
+  unfolding end plainEnd
   end-local Beginning = free (must-local modifier-local)
   end-local Always = selected-local
   end-local Colon = selected-local
-  end-local Years = selected-local
-  end-local MonthDays = selected-local
-  end-local Weeks = selected-local
-  end-local Weekdays = selected-local
-  end-local Holidays = selected-local
-  end-local LastHolidays = selected-local
-  end-local LastWeekdays = selected-local
-  end-local Times = selected-local
+  end-local (After k) = selected-local
 
   -- without selectors, an end takes a byte
   pub beginning-end : Local Stop tailMoves u false false 1 (end Beginning) (end Beginning)
-  unfolding end
+  unfolding end plainEnd
   beginning-end = must-local modifier-local
 
   -- a list of items that stay stays
-  items-stay : {k : ℕ} (x : Stage) → Local Stop (chain-moves keep tailMoves) u false false k (chain piece end x) (chain piece end x) → Local Stop piecesMoves u false false k (chain piece end x) (chain piece end x)
+  items-stay : {k : ℕ} (x : Stage) → Local Stop (chain-moves keep tailMoves) u false false k (chain more end x) (chain more end x) → Local Stop piecesMoves u false false k (chain more end x) (chain more end x)
   items-stay x M = by M (λ r. ap (λ (l : List Item). (l, tailMoves (length u) (r .1))) (list.map-id (r .0)))
 
   -- the pieces of a rule
-  pub pieces-local : (x : Stage) → Local Stop piecesMoves u false false 0 (chain piece end x) (chain piece end x)
-  pieces-local x = items-stay x (chain-local keep piece-local end-local x)
+  pub pieces-local : (x : Stage) → Local Stop piecesMoves u false false 0 (chain more end x) (chain more end x)
+  pieces-local x = items-stay x (chain-local keep more-local end-local x)
 
   -- from the beginning, they and the end take a byte
-  pub beginning-local : Local Stop piecesMoves u false false 1 (chain piece end Beginning) (chain piece end Beginning)
-  beginning-local = items-stay Beginning (chain-takes keep piece-local end-local Beginning beginning-end)
+  pub beginning-local : Local Stop piecesMoves u false false 1 (chain more end Beginning) (chain more end Beginning)
+  beginning-local = items-stay Beginning (chain-takes keep more-local end-local Beginning beginning-end)
 
 -- ---- a rule
 
@@ -293,7 +241,7 @@ or-then-moved {Q = Q} {sh₂ = sh₂} {u} {a} {c = c} {k} {m′} {m} n′ n f′
 
 module _ {u : List ℕ} (separator : ℕ) where
   -- what is behind an opening takes the bytes that its pieces and its end do
-  behind-takes : {k : ℕ} (o : Opening) → Local Stop piecesMoves u false false k (chain piece end o.stage) (chain piece end o.stage) → Local Stop ruleMoves u false false k (behind separator (openingMoves (length u) o)) (behind separator o)
+  behind-takes : {k : ℕ} (o : Opening) → Local Stop piecesMoves u false false k (chain more end o.stage) (chain more end o.stage) → Local Stop ruleMoves u false false k (behind separator (openingMoves (length u) o)) (behind separator o)
   unfolding behind
   behind-takes o M = map-local (ruleOf separator (commentMoves (length u) o.comment)) (ruleOf separator o.comment) (rule-moves (length u) separator o.comment) M
 

@@ -7,8 +7,6 @@ use native.Mathlib.Omega.{arith}
 use native.Mathlib.Numerals.{add-one}
 use native.Mathlib.Decide.{decLt}
 use borrow.Author.Tests.{eq-eqb, ne-eqb, eqb-true, eqb-false}
-use denote.Enum.Declared.{tagOf}
-use types.Run.{OneOf, miss}
 use lib.Dec.{ltb, eqb}
 use lib.ListN.{length, getD}
 use Rattle.names.specs.Read.{Read, got, none, refused, Reader, follow, branch, nothing, pure, when, one}
@@ -19,24 +17,19 @@ use Rattle.names.proofs.Ended.{one-ended}
 use Rattle.names.proofs.Chains.{many-local}
 use Rattle.names.proofs.Laws.{one-got, one-other, one-past}
 use Rattle.names.proofs.Skips.{skip-more, skip-stop, skip-end, skip-sure}
-use Rattle.records.specs.Seen.{seenItem}
-use Rattle.records.specs.declared.Item.{Item}
-use Rattle.records.specs.declared.ItemRead.{ItemRead}
-use Rattle.records.specs.declared.ItemRead.the-variants as item
-use Rattle.records.proofs.ItemRead as item-read
-use Rattle.rules.specs.Musts.{missing}
-use Rattle.rules.specs.Comments.{noComment, commentApart}
-use Rattle.rules.specs.Modifiers.{tailOf, withComment, selected}
-use Rattle.rules.specs.Pieces.{more, end}
-use Rattle.rules.specs.Seen.{seenTail}
-use Rattle.rules.specs.declared.Comment.{Comment}
+
+use denote.Enum.Declared.{tagOf}
+use types.Run.{OneOf, miss}
+use Rattle.items.specs.declared.Kind.{Kind}
+use Rattle.items.specs.declared.Kind.the-variants.{Years, MonthDays, Weeks, WeekNumbers, Weekdays, LastWeekdays, Holidays, LastHolidays, Times}
+use Rattle.items.proofs.Kind.{the-type as kind-type}
+use Rattle.rules.specs.Comments.{noComment}
+use Rattle.rules.specs.Modifiers.{tailOf}
+use Rattle.rules.specs.Rows.{isWide}
+use Rattle.rules.specs.Pieces.{plainEnd}
 use Rattle.rules.specs.declared.Stage.{Stage}
-use Rattle.rules.specs.declared.Stage.the-variants.{Beginning, Always, Colon, Years, MonthDays, Weeks, Weekdays, Holidays, LastHolidays, LastWeekdays, Times}
-use Rattle.rules.specs.declared.Tail.{Tail}
-use Rattle.rules.specs.declared.TailRead.{TailRead}
-use Rattle.rules.specs.declared.TailRead.the-variants.{Got, Missing, Refused}
+use Rattle.rules.specs.declared.Stage.the-variants.{Beginning, Always, Colon, After}
 use Rattle.rules.proofs.Stage.{the-type as stage-type}
-use Rattle.rules.proofs.TailRead.{the-type}
 
 -- a test of two numbers, either way round
 pub eqb-swap : (a b : ℕ) → eqb a b ≡ eqb b a
@@ -119,88 +112,47 @@ module _ (x : ℕ) (s : List ℕ) (i : ℕ) where
       go none = refl
       go (refused k p) = refl
 
--- ---- an answer that is not Missing, returned whole
-
--- the variants that are a value or a refusal
-abbrev pub answered : List ℕ
-answered = 0 ∷ 2 ∷ []
-
-abbrev pub Answered : TailRead → Type 0
-Answered r = OneOf answered (tagOf the-type r)
-
--- such an answer is what `or` and `maybe` come to
-pub passed : {m : Read Tail} (r : TailRead) → Answered r → m ≡ seenTail r → (s : List ℕ) (i : ℕ) (n : Reader Tail) → follow s i m pure n ≡ seenTail r
-passed (Got t c) k e s i n = rw e
-passed Missing k e s i n = absurd (miss answered 1 tt k)
-passed (Refused l p) k e s i n = rw e
-
--- the same of items
-abbrev pub AnsweredItem : ItemRead → Type 0
-AnsweredItem r = OneOf answered (tagOf item-read.the-type r)
-
-pub passed-item : {m : Read Item} (r : ItemRead) → AnsweredItem r → m ≡ seenItem r → (s : List ℕ) (i : ℕ) (n : Reader Item) → follow s i m pure n ≡ seenItem r
-passed-item (item.Got a c) k e s i n = rw e
-passed-item item.Missing k e s i n = absurd (miss answered 1 tt k)
-passed-item (item.Refused l p) k e s i n = rw e
-
--- behind a modifier's word there is always an end: what follows `or` is not read
-pub with-comment-or : (state : ℕ) (s : List ℕ) (i j : ℕ) (n : Reader Tail) → follow s j (withComment state s i) pure n ≡ withComment state s i
-unfolding withComment
-with-comment-or state s i j n = go (commentApart s i)
-  where
-    go : (r : Read Comment) → follow s j (follow s i (follow s i r pure (pure noComment)) (λ c. pure (tailOf state c)) nothing) pure n ≡ follow s i (follow s i r pure (pure noComment)) (λ c. pure (tailOf state c)) nothing
-    go (got c k) = refl
-    go none = refl
-    go (refused k p) = refl
-
--- ---- what has to stand at a place
-
--- it stands there or is refused: what follows `or` is not read
-pub must-sure : {A : Type 0} (s : List ℕ) (i k : ℕ) (r : Read A) (n : Reader A) → follow s k (follow s i r pure missing) pure n ≡ follow s i r pure missing
-unfolding missing blanks
-must-sure s i k (got a j) n = refl
-must-sure s i k none n = rw (skip-sure (eqb 32) s i .1)
-must-sure s i k (refused l p) n = refl
-
--- ---- where something was read
+-- ---- stages and kinds by their numbers
 
 -- the stages but the first
-abbrev pub begun : List ℕ
-begun = 1 ∷ 2 ∷ 3 ∷ 4 ∷ 5 ∷ 6 ∷ 7 ∷ 8 ∷ 9 ∷ 10 ∷ []
+abbrev begun : List ℕ
+begun = 1 ∷ 2 ∷ 3 ∷ []
 
-abbrev pub Begun : Stage → Type 0
-Begun x = OneOf begun (tagOf stage-type x)
+-- without a modifier, a rule with selectors is open
+pub open-end : (x : Stage) → OneOf begun (tagOf stage-type x) → plainEnd x ≡ pure (tailOf 0 noComment)
+unfolding plainEnd
+open-end Beginning k = absurd (miss begun 0 tt k)
+open-end Always k = refl
+open-end Colon k = refl
+open-end (After x) k = refl
 
--- a modifier may end the rule
-pub begun-end : (x : Stage) → Begun x → end x ≡ selected
-unfolding end
-begun-end Beginning k = absurd (miss begun 0 tt k)
-begun-end Always k = refl
-begun-end Colon k = refl
-begun-end Years k = refl
-begun-end MonthDays k = refl
-begun-end Weeks k = refl
-begun-end Weekdays k = refl
-begun-end Holidays k = refl
-begun-end LastHolidays k = refl
-begun-end LastWeekdays k = refl
-begun-end Times k = refl
+-- the kinds of the wide part, and the others
+abbrev wide : List ℕ
+wide = 0 ∷ 1 ∷ 2 ∷ 3 ∷ []
 
--- weekdays or holidays, where the list has not changed its kind
-abbrev alike : List ℕ
-alike = 6 ∷ 7 ∷ []
+pub is-wide : (k : Kind) → OneOf wide (tagOf kind-type k) → true ≡ isWide k
+unfolding isWide
+is-wide Years o = refl
+is-wide MonthDays o = refl
+is-wide Weeks o = refl
+is-wide WeekNumbers o = refl
+is-wide Weekdays o = absurd (miss wide 4 tt o)
+is-wide LastWeekdays o = absurd (miss wide 5 tt o)
+is-wide Holidays o = absurd (miss wide 6 tt o)
+is-wide LastHolidays o = absurd (miss wide 7 tt o)
+is-wide Times o = absurd (miss wide 8 tt o)
 
--- the same may stand behind them
-pub alike-more : (x : Stage) → OneOf alike (tagOf stage-type x) → more x ≡ more Weekdays
-unfolding more
-alike-more Beginning k = absurd (miss alike 0 tt k)
-alike-more Always k = absurd (miss alike 1 tt k)
-alike-more Colon k = absurd (miss alike 2 tt k)
-alike-more Years k = absurd (miss alike 3 tt k)
-alike-more MonthDays k = absurd (miss alike 4 tt k)
-alike-more Weeks k = absurd (miss alike 5 tt k)
-alike-more Weekdays k = refl
-alike-more Holidays k = refl
-alike-more LastHolidays k = absurd (miss alike 8 tt k)
-alike-more LastWeekdays k = absurd (miss alike 9 tt k)
-alike-more Times k = absurd (miss alike 10 tt k)
+abbrev narrow : List ℕ
+narrow = 4 ∷ 5 ∷ 6 ∷ 7 ∷ 8 ∷ []
+
+pub is-narrow : (k : Kind) → OneOf narrow (tagOf kind-type k) → false ≡ isWide k
+unfolding isWide
+is-narrow Years o = absurd (miss narrow 0 tt o)
+is-narrow MonthDays o = absurd (miss narrow 1 tt o)
+is-narrow Weeks o = absurd (miss narrow 2 tt o)
+is-narrow WeekNumbers o = absurd (miss narrow 3 tt o)
+is-narrow Weekdays o = refl
+is-narrow LastWeekdays o = refl
+is-narrow Holidays o = refl
+is-narrow LastHolidays o = refl
+is-narrow Times o = refl

@@ -1,8 +1,6 @@
 pub mod Laws
 pub mod Cut
 pub mod Apart
-pub mod Standing
 pub mod Chained
-pub mod Counts
+pub mod Turns
 pub mod Small
-pub mod Fills

@@ -7,22 +7,23 @@ use native.Mathlib.Omega.{arith}
 use lib.Dec.{eqb}
 use lib.ListN.{length}
 use Rattle.names.specs.Tests.{if_then_else_}
-use Rattle.names.specs.Read.{Read, got, none, refused, Reader, follow, branch, nothing, pure, map, one, _>>_}
+use Rattle.names.specs.Read.{Read, got, none, refused, Reader, follow, branch, nothing, pure, map, one, _>>_, _or_}
 use Rattle.names.specs.Chain.{skip}
 use Rattle.names.specs.Texts.{byte, bytes, blank, blanks, allOf}
 use Rattle.names.specs.Names.{name}
 use Rattle.names.specs.Names as names
 use Rattle.names.proofs.Local.{past, past-one}
 use Rattle.names.proofs.Ended.{one-ended}
-use Rattle.rules.specs.Musts.{missing}
+use Rattle.items.specs.Musts.{missing}
+use Rattle.items.specs.Kinds.{apart}
 use Rattle.rules.specs.Comments.{noComment, isInner, comment, commentApart}
-use Rattle.rules.specs.Modifiers.{tailOf, withComment, modifier, selected}
-use Rattle.rules.specs.Pieces.{end}
+use Rattle.rules.specs.Modifiers.{tailOf, withComment, modifier}
+use Rattle.rules.specs.Pieces.{plainEnd, end}
 use Rattle.rules.specs.Rules.{openingOf, always, wideComment, opening, wins}
 use Rattle.rules.specs.declared.Comment.{Comment}
 use Rattle.rules.specs.declared.Opening.{Opening}
 use Rattle.rules.specs.declared.Stage.{Stage}
-use Rattle.rules.specs.declared.Stage.the-variants.{Beginning, Always, Colon, Years, MonthDays, Weeks, Weekdays, Holidays, LastHolidays, LastWeekdays, Times}
+use Rattle.rules.specs.declared.Stage.the-variants.{Beginning, Always, Colon, After}
 use Rattle.rules.specs.declared.Tail.{Tail}
 use Rattle.rules.proofs.Laws.{skip-ended}
 use Rattle.rules.proofs.Cut.{Found, found-then}
@@ -82,30 +83,23 @@ module _ (s : List ℕ) where
       (found-then (SmallEnd (length s)) s i withComment (name names.modifier s i) (λ state j _. with-small state j))
       (found-then (SmallEnd (length s)) s i (λ c. pure (tailOf 0 c)) (comment s i) (λ c j e. found-is (Small (length s)) (comment s i) (comment-small i) e))
 
-  selected-small : (i : ℕ) → Found (SmallEnd (length s)) (selected s i)
-  unfolding selected
-  selected-small i =
-      found-or (SmallEnd (length s)) s i ((blank >> modifier) s i) (pure (tailOf 0 noComment)) (found-then (SmallEnd (length s)) s i (λ _. modifier) (blank s i) (λ _ j _. modifier-small j)) (no-small (length s))
-
   -- what is missing has no value
   missing-small : {A : Type 0} (P : A → Type 0) (i : ℕ) → Found P (missing s i)
   unfolding missing
   missing-small P i = found-then P s i _ (blanks s i) (λ _ j _. tt)
 
+  -- a modifier after a blank, or none
+  selected-small : (i : ℕ) → Found (SmallEnd (length s)) ((apart modifier or pure (tailOf 0 noComment)) s i)
+  selected-small i =
+      found-or (SmallEnd (length s)) s i (apart modifier s i) (pure (tailOf 0 noComment)) (found-then (SmallEnd (length s)) s i (λ _. modifier) (blank s i) (λ _ j _. modifier-small j)) (no-small (length s))
+
   -- the comment of a rule's end
   pub end-small : (x : Stage) (i : ℕ) → Found (SmallEnd (length s)) (end x s i)
-  unfolding end
+  unfolding end plainEnd
   end-small Beginning i = found-or (SmallEnd (length s)) s i (modifier s i) missing (modifier-small i) (missing-small (SmallEnd (length s)) i)
   end-small Always i = selected-small i
   end-small Colon i = selected-small i
-  end-small Years i = selected-small i
-  end-small MonthDays i = selected-small i
-  end-small Weeks i = selected-small i
-  end-small Weekdays i = selected-small i
-  end-small Holidays i = selected-small i
-  end-small LastHolidays i = selected-small i
-  end-small LastWeekdays i = selected-small i
-  end-small Times i = selected-small i
+  end-small (After k) i = selected-small i
 
   always-small : (i : ℕ) → Found (SmallOpening (length s)) (always s i)
   unfolding always

@@ -1,9 +1,6 @@
-pub mod Musts
 pub mod Comments
 pub mod Modifiers
-pub mod Firsts
+pub mod Rows
 pub mod Pieces
 pub mod Rules
-pub mod Heads
-pub mod Tables
 pub mod Seen

@@ -1,7 +1,6 @@
 -- Modifier: `open`, `closed`, `off` or `unknown`, optionally both blank and comment; or a comment alone (open).
 use Prim.Native.Nat.{ℕ}
 use Rattle.names.specs.Read.{Reader, pure, _>>=_, _>>_, _or_, maybe}
-use Rattle.names.specs.Texts.{blank}
 use Rattle.names.specs.Names.{name, modifier as modifierName}
 use Rattle.rules.specs.Comments.{noComment, comment, commentApart}
 use Rattle.rules.specs.declared.Comment.{Comment}
@@ -11,7 +10,7 @@ use Rattle.rules.specs.declared.Tail.{Tail}
 abbrev pub tailOf : ℕ → Comment → Tail
 tailOf state comment = record { state = state; comment = comment }
 
--- behind a modifier's word: optionally both blank and comment
+-- after a modifier's word: optionally both blank and comment
 unfoldable pub withComment : ℕ → Reader Tail
 withComment state = do
   c ← maybe commentApart noComment
@@ -20,7 +19,3 @@ withComment state = do
 -- a modifier
 unfoldable pub modifier : Reader Tail
 modifier = (do state ← name modifierName; withComment state) or (do c ← comment; pure (tailOf 0 c))
-
--- a blank and a modifier may stand behind selectors: without one, the rule is open
-unfoldable pub selected : Reader Tail
-selected = maybe (do blank; modifier) (tailOf 0 noComment)

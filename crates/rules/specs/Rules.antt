@@ -9,7 +9,7 @@ use Rattle.names.specs.Chain.{chain}
 use Rattle.names.specs.Texts.{bytes, sign, allOf}
 use Rattle.records.specs.declared.Item.{Item}
 use Rattle.rules.specs.Comments.{noComment, comment}
-use Rattle.rules.specs.Pieces.{piece, end}
+use Rattle.rules.specs.Pieces.{more, end}
 use Rattle.rules.specs.declared.Comment.{Comment}
 use Rattle.names.specs.declared.Cursor.{Cursor}
 use Rattle.rules.specs.declared.Opening.{Opening}
@@ -64,7 +64,7 @@ ruleOf separator wide r = (headOf separator (r .1) wide (length (r .0)), r .0)
 
 -- the pieces of a rule behind its opening
 unfoldable pub behind : ℕ → Opening → Reader Rule
-behind separator o = map (ruleOf separator o.comment) (chain piece end o.stage)
+behind separator o = map (ruleOf separator o.comment) (chain more end o.stage)
 
 -- a rule
 unfoldable pub rule : ℕ → Reader Rule

@@ -1,11 +1,27 @@
 -- What an answer of the code says, in the definitions' terms.
-use Rattle.names.specs.Read.{Read, got, none, refused}
+use Prim.Native.Nat.{ℕ}
+use mathlib.Core.Bool.{true, false}
+use mathlib.Core.List.{List}
+use mathlib.Core.Path.{_≡_}
+use mathlib.Core.Logic.{_⊎_, inl, inr}
+use Rattle.names.specs.Read.{Read, got, none, refused, branch, pure, map}
+use Rattle.records.specs.declared.Item.{Item}
+use Rattle.items.specs.Musts.{must}
+use Rattle.items.specs.Kinds.{apart}
+use Rattle.items.specs.Sets.{kindsOf}
+use Rattle.items.specs.declared.Kind.{Kind}
+use Rattle.rules.specs.Modifiers.{modifier}
+use Rattle.rules.specs.Pieces.{itemFrom, afterColon, plainEnd}
 use Rattle.rules.specs.declared.Comment.{Comment}
 use Rattle.rules.specs.declared.CommentRead.{CommentRead}
 use Rattle.rules.specs.declared.CommentRead.the-variants as comment
 use Rattle.rules.specs.declared.Tail.{Tail}
-use Rattle.rules.specs.declared.TailRead.{TailRead}
-use Rattle.rules.specs.declared.TailRead.the-variants as tail
+use Rattle.rules.specs.declared.Piece.{Piece}
+use Rattle.rules.specs.declared.Piece.the-variants as piece
+use Rattle.rules.specs.declared.Turn.{Turn}
+use Rattle.rules.specs.declared.Turn.the-variants as turn
+use Rattle.rules.specs.declared.Stage.{Stage}
+use Rattle.rules.specs.declared.Stage.the-variants.{After}
 use Rattle.rules.specs.declared.Opening.{Opening}
 use Rattle.rules.specs.declared.OpeningThen.{OpeningThen}
 use Rattle.rules.specs.declared.Head.{Head}
@@ -19,10 +35,25 @@ abbrev pub seenComment : CommentRead → Read Comment
 seenComment (comment.Got x c) = got x (c .at)
 seenComment comment.Missing = none
 
-abbrev pub seenTail : TailRead → Read Tail
-seenTail (tail.Got x c) = got x (c .at)
-seenTail tail.Missing = none
-seenTail (tail.Refused k p) = refused k p
+-- a piece: an item and the stage after it, or the rule's end
+abbrev pub seenPiece : Piece → Read ((Item × Stage) ⊎ Tail)
+seenPiece (piece.Item a k c) = got (inl (a, After k)) (c .at)
+seenPiece (piece.End t c) = got (inr t) (c .at)
+seenPiece (piece.Refused k p) = refused k p
+
+-- where a rule with this stage and place goes on: with an item that has to stand there; or with one that may, or a modifier; or it ends
+abbrev pub turned : List ℕ → Stage → ℕ → Turn → Read ((Item × Stage) ⊎ Tail)
+turned s x i (turn.On c set true) = map inl (must (itemFrom (kindsOf set))) s (c .at)
+turned s x i (turn.On c set false) = branch (itemFrom (kindsOf set)) (λ a. pure (inl a)) (branch modifier (λ t. pure (inr t)) (λ s _. map inr (plainEnd x) s i)) s (c .at)
+turned s x i turn.Over = map inr (plainEnd x) s i
+
+-- the turn of a rule after a colon, at c
+abbrev pub ColonTurns : List ℕ → ℕ → Turn → Type 0
+ColonTurns s c r = (x : Stage) (i : ℕ) → map inl afterColon s c ≡ turned s x i r
+
+-- the turn of a rule after selectors, at c: after a blank one of these kinds may stand, or a modifier
+abbrev pub BlankTurns : List Kind → List ℕ → ℕ → Turn → Type 0
+BlankTurns ks s c r = (x : Stage) → branch (apart (itemFrom ks)) (λ a. pure (inl a)) (branch (apart modifier) (λ t. pure (inr t)) (map inr (plainEnd x))) s c ≡ turned s x c r
 
 -- what is always there, if only as nothing
 abbrev pub thenOpening : OpeningThen → Read Opening

@@ -1,43 +1,25 @@
 // One rule: its pieces in order, its end, and its head.
-mod byte_rule;
 mod comments;
-mod firsts;
 mod heads;
 mod modifiers;
 mod openings;
 mod pieces;
-mod rule;
+mod rows;
 mod separators;
 
-pub use byte_rule::fill_as_bytes;
+pub use heads::head_of;
+use items::Kind;
 use names::Cursor;
-pub use rule::fill_rule;
+pub use openings::begin;
+use records::Item;
 pub use separators::next_rule;
 
-// What was read last in a rule.
+// What was read last in a rule: nothing yet, `24/7`, the comment of a wide part and its colon, or an item of a kind.
 pub enum Stage {
-    // nothing yet
     Beginning,
-    // `24/7`
     Always,
-    // the comment of a wide part, and its colon
     Colon,
-    // a year
-    Years,
-    // a month day
-    MonthDays,
-    // a week
-    Weeks,
-    // weekdays so far
-    Weekdays,
-    // holidays so far
-    Holidays,
-    // weekdays, then holidays
-    LastHolidays,
-    // holidays, then weekdays
-    LastWeekdays,
-    // a time
-    Times,
+    After(Kind),
 }
 
 // A comment's first byte and its length, 0 and 0 for none.
@@ -70,11 +52,17 @@ pub enum CommentRead {
     Missing,
 }
 
-// What reading a rule's end finds: or a refusal with its number and place.
-pub enum TailRead {
-    Got(Tail, Cursor),
-    Missing,
+// A piece of a rule: an item, its kind and the place after it; the rule's end and the place after it; or a refusal with its number and place.
+pub enum Piece {
+    Item(Item, Kind, Cursor),
+    End(Tail, Cursor),
     Refused(u8, usize),
+}
+
+// Where a rule goes on: the place, what may stand there and whether it has to; or the rule ends.
+enum Turn {
+    On(Cursor, u16, bool),
+    Over,
 }
 
 // How a rule begins, and the place after it.

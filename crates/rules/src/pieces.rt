@@ -1,226 +1,164 @@
-// The pieces of a rule, in order: what may stand behind what was read last.
+// The pieces of a rule, in order: an item, or the rule's end.
+ghost use mathlib.Core.Logic.{inl, inr};
 ghost use mathlib.Core.Path.{_≡_};
-ghost use Rattle.records.specs.Seen.{seenItem};
+ghost use Rattle.names.specs.Read.{branch, pure, map};
+ghost use Rattle.names.specs.Seen.{seenStep};
+ghost use Rattle.items.specs.Sets.{kindsOf};
+ghost use Rattle.rules.specs.Comments.{comment};
+ghost use Rattle.rules.specs.Modifiers.{tailOf};
 ghost use Rattle.rules.specs.Pieces as pieces;
-ghost use Rattle.rules.specs.Seen.{seenTail};
+ghost use Rattle.rules.specs.Seen.{seenPiece, turned, ColonTurns, BlankTurns};
 ghost use Rattle.rules.specs.declared.Stage.the-variants as stage;
+use crate::CommentRead;
+use crate::Piece;
 use crate::Spot;
 use crate::Stage;
-use crate::TailRead;
-use crate::firsts::any_day;
-use crate::firsts::behind_years;
-use crate::firsts::colon;
-use crate::firsts::first;
-use crate::firsts::must;
-use crate::firsts::small_apart;
-use crate::firsts::time_apart;
-use crate::firsts::weeks_or_small;
-use crate::modifiers::modifier;
-use crate::modifiers::selected;
-use dates::month_day_item;
-use dates::week_item;
-use dates::year_item;
-use days::holiday_item;
-use days::weekday_item;
+use crate::Tail;
+use crate::Turn;
+use crate::comments::comment;
+use crate::modifiers::no_comment;
+use crate::modifiers::with_comment;
+use crate::rows::FIRST;
+use crate::rows::SMALL;
+use crate::rows::following;
+use crate::rows::is_wide;
+use crate::rows::listed;
+use items::Kind;
+use items::NO_KIND;
+use items::Stands;
+use items::look_at;
 use names::Cursor;
+use names::MODIFIER;
 use names::Step;
-use records::Item;
-use records::ItemRead;
-use times::time_item;
 
-// Behind a year.
-fn more_years(s: &[u8], c: Cursor) -> ItemRead
-    ensures { λ r. ⌜ pieces.more stage.Years (now (s .entry)) (c .at) ≡ seenItem r ⌝ }
+// After a colon a blank and a small part have to stand.
+fn after_colon(s: &[u8], c: Cursor) -> Turn
+    ensures { λ r. ⌜ ColonTurns (now (s .entry)) (c .at) r ⌝ }
 {
-    let comma = c.comma(s);
-    if let Step::Got(d) = comma {
-        return must(s, d, year_item(s, d));
-    }
-    let part = colon(s, c);
-    let ItemRead::Missing = part else {
-        return part;
-    };
     let before = c.blank(s);
-    let Step::Got(e) = before else {
-        return ItemRead::Missing;
-    };
-    behind_years(s, e)
+    match before {
+        Step::Got(d) => Turn::On(d, SMALL, true),
+        Step::Missing => Turn::On(c, NO_KIND, true),
+    }
 }
 
-// Behind a month day.
-fn more_month_days(s: &[u8], c: Cursor) -> ItemRead
-    ensures { λ r. ⌜ pieces.more stage.MonthDays (now (s .entry)) (c .at) ≡ seenItem r ⌝ }
+// After a blank one of these kinds may stand.
+fn after_blank(s: &[u8], c: Cursor, set: u16) -> Turn
+    ensures { λ r. ⌜ BlankTurns (kindsOf set) (now (s .entry)) (c .at) r ⌝ }
 {
-    let comma = c.comma(s);
-    if let Step::Got(d) = comma {
-        return must(s, d, month_day_item(s, d));
-    }
-    let part = colon(s, c);
-    let ItemRead::Missing = part else {
-        return part;
-    };
     let before = c.blank(s);
-    let Step::Got(e) = before else {
-        return ItemRead::Missing;
-    };
-    weeks_or_small(s, e)
+    match before {
+        Step::Got(d) => Turn::On(d, set, false),
+        Step::Missing => Turn::Over,
+    }
 }
 
-// Behind a week.
-fn more_weeks(s: &[u8], c: Cursor) -> ItemRead
-    ensures { λ r. ⌜ pieces.more stage.Weeks (now (s .entry)) (c .at) ≡ seenItem r ⌝ }
+// The colon of a wide part.
+fn colon_sign(s: &[u8], c: Cursor, kind: Kind) -> Step
+    ensures { λ r. ⌜ pieces.colonSign kind (now (s .entry)) (c .at) ≡ seenStep r ⌝ }
+{
+    if is_wide(kind) {
+        c.sign(s, b':')
+    } else {
+        Step::Missing
+    }
+}
+
+// After an item of this kind.
+fn after_item(s: &[u8], c: Cursor, kind: Kind) -> Turn
+    ensures { λ r. ⌜ pieces.piece (stage.After kind) (now (s .entry)) (c .at) ≡ turned (now (s .entry)) (stage.After kind) (c .at) r ⌝ }
 {
     let comma = c.comma(s);
     if let Step::Got(d) = comma {
-        return must(s, d, week_item(s, d));
+        return Turn::On(d, listed(kind), true);
     }
-    let part = colon(s, c);
-    let ItemRead::Missing = part else {
-        return part;
-    };
-    small_apart(s, c)
-}
-
-// Behind a weekday or a holiday, where the list has not changed its kind.
-fn more_days(s: &[u8], c: Cursor) -> ItemRead
-    ensures { λ r. ⌜ pieces.more stage.Weekdays (now (s .entry)) (c .at) ≡ seenItem r ⌝ }
-{
-    let comma = c.comma(s);
-    if let Step::Got(d) = comma {
-        return must(s, d, any_day(s, d));
-    }
-    time_apart(s, c)
-}
-
-// Behind a holiday of a list that had weekdays.
-fn more_last_holidays(s: &[u8], c: Cursor) -> ItemRead
-    ensures { λ r. ⌜ pieces.more stage.LastHolidays (now (s .entry)) (c .at) ≡ seenItem r ⌝ }
-{
-    let comma = c.comma(s);
-    if let Step::Got(d) = comma {
-        return must(s, d, holiday_item(s, d));
-    }
-    time_apart(s, c)
-}
-
-// Behind a weekday of a list that had holidays.
-fn more_last_weekdays(s: &[u8], c: Cursor) -> ItemRead
-    ensures { λ r. ⌜ pieces.more stage.LastWeekdays (now (s .entry)) (c .at) ≡ seenItem r ⌝ }
-{
-    let comma = c.comma(s);
-    if let Step::Got(d) = comma {
-        return must(s, d, weekday_item(s, d));
-    }
-    time_apart(s, c)
-}
-
-// Behind a time.
-fn more_times(s: &[u8], c: Cursor) -> ItemRead
-    ensures { λ r. ⌜ pieces.more stage.Times (now (s .entry)) (c .at) ≡ seenItem r ⌝ }
-{
-    let comma = c.comma(s);
-    let Step::Got(d) = comma else {
-        return ItemRead::Missing;
-    };
-    must(s, d, time_item(s, d))
-}
-
-// What was read last behind a weekday.
-fn weekday_stage(x: Stage) -> Stage
-    ensures { λ r. ⌜ r ≡ pieces.weekdayStage x ⌝ }
-{
-    match x {
-        Stage::Beginning => Stage::Weekdays,
-        Stage::Always => Stage::Weekdays,
-        Stage::Colon => Stage::Weekdays,
-        Stage::Years => Stage::Weekdays,
-        Stage::MonthDays => Stage::Weekdays,
-        Stage::Weeks => Stage::Weekdays,
-        Stage::Weekdays => Stage::Weekdays,
-        Stage::Holidays => Stage::LastWeekdays,
-        Stage::LastHolidays => Stage::Weekdays,
-        Stage::LastWeekdays => Stage::LastWeekdays,
-        Stage::Times => Stage::Weekdays,
-    }
-}
-
-// What was read last behind a holiday.
-fn holiday_stage(x: Stage) -> Stage
-    ensures { λ r. ⌜ r ≡ pieces.holidayStage x ⌝ }
-{
-    match x {
-        Stage::Beginning => Stage::Holidays,
-        Stage::Always => Stage::Holidays,
-        Stage::Colon => Stage::Holidays,
-        Stage::Years => Stage::Holidays,
-        Stage::MonthDays => Stage::Holidays,
-        Stage::Weeks => Stage::Holidays,
-        Stage::Weekdays => Stage::LastHolidays,
-        Stage::Holidays => Stage::Holidays,
-        Stage::LastHolidays => Stage::LastHolidays,
-        Stage::LastWeekdays => Stage::Holidays,
-        Stage::Times => Stage::Holidays,
-    }
-}
-
-// What was read last behind an item that stands behind this.
-fn stage_behind(x: Stage, a: Item) -> Stage
-    ensures { λ r. ⌜ r ≡ pieces.stageBehind x a ⌝ }
-{
-    match a {
-        Item::Years(_) => Stage::Years,
-        Item::Months(_) => Stage::MonthDays,
-        Item::Dates(_) => Stage::MonthDays,
-        Item::Weeks(_) => Stage::Weeks,
-        Item::Weekdays(_) => weekday_stage(x),
-        Item::Holidays(_) => holiday_stage(x),
-        Item::Times(_) => Stage::Times,
+    let colon = colon_sign(s, c, kind);
+    match colon {
+        Step::Got(e) => after_colon(s, e),
+        Step::Missing => after_blank(s, c, following(kind)),
     }
 }
 
 impl Spot {
-    // What may stand behind what was read last.
-    pub fn more(self, s: &[u8]) -> ItemRead
-        ensures { λ r. ⌜ pieces.more (self .stage) (now (s .entry)) (self .at) ≡ seenItem r ⌝ }
+    // Where the rule goes on.
+    fn turn(self, s: &[u8]) -> Turn
+        ensures { λ r. ⌜ pieces.piece (self .stage) (now (s .entry)) (self .at) ≡ turned (now (s .entry)) (self .stage) (self .at) r ⌝ }
     {
         let c = Cursor { at: self.at };
         let stage = self.stage;
         match stage {
-            Stage::Beginning => first(s, c),
-            Stage::Always => ItemRead::Missing,
-            Stage::Colon => must(s, c, small_apart(s, c)),
-            Stage::Years => more_years(s, c),
-            Stage::MonthDays => more_month_days(s, c),
-            Stage::Weeks => more_weeks(s, c),
-            Stage::Weekdays | Stage::Holidays => more_days(s, c),
-            Stage::LastHolidays => more_last_holidays(s, c),
-            Stage::LastWeekdays => more_last_weekdays(s, c),
-            Stage::Times => more_times(s, c),
+            Stage::Beginning => Turn::On(c, FIRST, false),
+            Stage::Always => after_blank(s, c, NO_KIND),
+            Stage::Colon => after_colon(s, c),
+            Stage::After(kind) => after_item(s, c, kind),
         }
     }
 
-    // The spot behind an item that was read here.
-    pub fn behind(self, a: Item, c: Cursor) -> Spot
-        ensures { λ r. ⌜ (r .at ≡ c .at) × (r .stage ≡ pieces.stageBehind (self .stage) a) ⌝ }
+    // The rule's end, where neither an item nor a modifier stands: open, if it has selectors.
+    fn ended(self, s: &[u8]) -> Piece
+        ensures { λ r. ⌜ map inr (pieces.plainEnd (self .stage)) (now (s .entry)) (self .at) ≡ seenPiece r ⌝ }
     {
-        let x = self.stage;
-        let stage = stage_behind(x, a);
-        Spot { at: c.at, stage }
-    }
-
-    // How a rule ends: without selectors, a modifier has to stand there.
-    pub fn end(self, s: &[u8]) -> TailRead
-        ensures { λ r. ⌜ pieces.end (self .stage) (now (s .entry)) (self .at) ≡ seenTail r ⌝ }
-    {
-        let c = Cursor { at: self.at };
+        let at = self.at;
         let stage = self.stage;
-        if let Stage::Beginning = stage {
-            let some = modifier(s, c);
-            let TailRead::Missing = some else {
-                return some;
-            };
-            return TailRead::Refused(3, c.blanks(s).at);
+        match stage {
+            Stage::Beginning => Piece::Refused(3, Cursor { at }.blanks(s).at),
+            _ => {
+                let none = no_comment();
+                Piece::End(
+                    Tail {
+                        state: 0,
+                        comment: none,
+                    },
+                    Cursor { at },
+                )
+            }
         }
-        selected(s, c)
+    }
+
+    // A comment alone at c, or else the rule's end.
+    fn noted(self, s: &[u8], c: Cursor) -> Piece
+        ensures { λ r. ⌜ branch comment (λ m. pure (inr (tailOf 0 m))) (λ s _. map inr (pieces.plainEnd (self .stage)) s (self .at)) (now (s .entry)) (c .at) ≡ seenPiece r ⌝ }
+    {
+        let alone = comment(s, c);
+        match alone {
+            CommentRead::Got(some, d) => Piece::End(
+                Tail {
+                    state: 0,
+                    comment: some,
+                },
+                d,
+            ),
+            CommentRead::Missing => self.ended(s),
+        }
+    }
+
+    // The next piece of a rule.
+    pub fn piece(self, s: &[u8]) -> Piece
+        ensures { λ r. ⌜ pieces.piece (self .stage) (now (s .entry)) (self .at) ≡ seenPiece r ⌝ }
+    {
+        let turn = self.turn(s);
+        let Turn::On(c, set, must) = turn else {
+            return self.ended(s);
+        };
+        let found = look_at(s, c, set);
+        match found {
+            Stands::Item(a, kind, d) => Piece::Item(a, kind, d),
+            Stands::Refused(k, p) => Piece::Refused(k, p),
+            Stands::Name(kind, value, d) => {
+                if must {
+                    return Piece::Refused(3, c.blanks(s).at);
+                }
+                if kind == MODIFIER {
+                    return with_comment(s, d, value);
+                }
+                self.ended(s)
+            }
+            Stands::Nothing => {
+                if must {
+                    return Piece::Refused(3, c.blanks(s).at);
+                }
+                self.noted(s, c)
+            }
+        }
     }
 }

@@ -1,8 +1,8 @@
--- Each number of an answer is small: a place is one of the sheet's, a rule has no more records than a byte more than the text has, and there are no more rules nor warnings than bytes.
-use Prim.Native.Nat.{ℕ, zero, suc, _+_, _*_, _/_, _≤_, _<_}
+-- Each number of an answer is small: a place is one of the sheet's, and there are no more records nor warnings than bytes.
+use Prim.Native.Nat.{ℕ, zero, suc, _+_, _/_, _≤_, _<_}
 use mathlib.Core.List.{List, [], _∷_}
 use mathlib.Core.Bool.{Bool, true, false, not}
-use mathlib.Core.Path.{_≡_, refl}
+use mathlib.Core.Path.{_≡_, refl, subst}
 use native.Mathlib.Omega.{arith}
 use native.Mathlib.Decide.{decLt}
 use lib.Dec.{ltb, eqb}
@@ -21,7 +21,6 @@ use Rattle.names.proofs.Cut.{blanks-local}
 use Rattle.rules.specs.Rules.{Rule}
 use Rattle.rules.specs.declared.Next.{Next}
 use Rattle.rules.specs.declared.Next.the-variants.{Another, Finished}
-use Rattle.rules.proofs.Cut.{Found}
 use Rattle.sheet.specs.Texts.{movedTo, parted, moreRules, noMore, rules, records}
 use Rattle.sheet.specs.Warnings.{isLetter, warned, warningsIn, warningsOf}
 use Rattle.sheet.specs.Sheets.{answerOf, refusal, judgedText, textOf, sheetOf, sheetReadingBytes, wordsIn}
@@ -30,7 +29,8 @@ use Rattle.sheet.specs.PartReadings.{partAnswerOf, withNext, partTo, par
 use Rattle.sheet.specs.declared.Answer.{Answer}
 use Rattle.sheet.specs.declared.PartAnswer.{PartAnswer}
 use Rattle.sheet.proofs.Moves.{takes}
-use Rattle.sheet.proofs.Turns.{more-sized, records-more, records-none}
+use Rattle.sheet.proofs.Takes.{Upto}
+use Rattle.sheet.proofs.Turns.{more-takes, records-more, records-none}
 use Rattle.sheet.proofs.PartLaws.{begins-fits, end-fits}
 
 -- ---- warnings
@@ -67,53 +67,52 @@ more-near (Another q) s i h =
     go j w (refused e p) = w
 more-near Finished s i h = tt
 
--- so many rules have records for so many slots, and a refusal is near
+-- from the place i on there are no more records than bytes, and a refusal is at a place of the text
 abbrev Bounded : ℕ → ℕ → Read (List Rule × Unit {0}) → Type 0
-Bounded m n (got l j) = length (records (l .0)) ≤ n * 4097
-Bounded m n none = Unit {0}
-Bounded m n (refused k p) = p ≤ m
+Bounded n i (got l j) = i + length (records (l .0)) ≤ n
+Bounded n i none = Unit {0}
+Bounded n i (refused k p) = p ≤ n
 
-module _ (s : List ℕ) (small : length s ≤ 4096) where
+module _ (s : List ℕ) where
   -- a rule more
-  bounded-more : (n : ℕ) (r : Rule) (j : ℕ) → length (r .1) ≤ length s → (x : Read (List Rule × Unit {0})) → Bounded (length s) n x → Bounded (length s) (suc n) (follow s j x (λ l. pure (before r l)) nothing)
-  bounded-more n r j h (got l k) b = omega (arith, records-more r (l .0))
-  bounded-more n r j h none b = tt
-  bounded-more n r j h (refused e p) b = b
+  bounded-more : (r : Rule) (i j : ℕ) → i + suc (length (r .1)) ≤ j → (x : Read (List Rule × Unit {0})) → Bounded (length s) j x → Bounded (length s) i (follow s j x (λ l. pure (before r l)) nothing)
+  bounded-more r i j h (got l k) b = omega (arith, records-more r (l .0))
+  bounded-more r i j h none b = tt
+  bounded-more r i j h (refused e p) b = b
 
   -- no rule more
-  finished : (n i : ℕ) → Bounded (length s) (suc n) (follow s i (moreRules Finished s i) (λ c. map (before (c .0)) (chainIn n moreRules noMore (c .1))) (map last (noMore Finished)))
+  finished : (n i : ℕ) → i ≤ length s → Bounded (length s) i (follow s i (moreRules Finished s i) (λ c. map (before (c .0)) (chainIn n moreRules noMore (c .1))) (map last (noMore Finished)))
   unfolding moreRules noMore
-  finished n i = omega (arith, records-none)
+  finished n i h = omega (arith, records-none)
 
-  bounded : (n : ℕ) (x : Next) (i : ℕ) → i ≤ length s → Bounded (length s) n (chainIn n moreRules noMore x s i)
+  bounded : (n : ℕ) (x : Next) (i : ℕ) → i ≤ length s → Bounded (length s) i (chainIn n moreRules noMore x s i)
   unfolding chainIn noMore
   bounded zero x i h = tt
-  bounded (suc n) (Another q) i h = go (λ y j w. bounded n y j w) (moreRules (Another q) s i) (takes (Another q) s i) (more-sized q s i) (more-near (Another q) s i h)
+  bounded (suc n) (Another q) i h = go (λ y j w. bounded n y j w) (moreRules (Another q) s i) (takes (Another q) s i) (more-takes q s i) (more-near (Another q) s i h)
     where
-      go : ((y : Next) (j : ℕ) → j ≤ length s → Bounded (length s) n (chainIn n moreRules noMore y s j)) →
-          (r : Read (Rule × Next)) → Ends (λ j. (i < j) × (j ≤ length s)) r → Found (λ x. length (x .0 .1) ≤ length s) r → Near (length s) r →
-          Bounded (length s) (suc n) (follow s i r (λ c. map (before (c .0)) (chainIn n moreRules noMore (c .1))) (map last (noMore (Another q))))
-      go ih (got c j) e f w = bounded-more n (c .0) j f (chainIn n moreRules noMore (c .1) s j) (ih (c .1) j (e .1))
-      go ih none e f w = tt
-      go ih (refused k p) e f w = w
-  bounded (suc n) Finished i h = finished n i
+      go : ((y : Next) (j : ℕ) → j ≤ length s → Bounded (length s) j (chainIn n moreRules noMore y s j)) →
+          (r : Read (Rule × Next)) → Ends (λ j. (i < j) × (j ≤ length s)) r → Upto (λ x k. i + suc (length (x .0 .1)) ≤ k) r → Near (length s) r →
+          Bounded (length s) i (follow s i r (λ c. map (before (c .0)) (chainIn n moreRules noMore (c .1))) (map last (noMore (Another q))))
+      go later (got c j) e f w = bounded-more (c .0) i j f (chainIn n moreRules noMore (c .1) s j) (later (c .1) j (e .1))
+      go later none e f w = tt
+      go later (refused k p) e f w = w
+  bounded (suc n) Finished i h = finished n i h
 
   -- the rules of a text
-  rules-bounded : (p : ℕ) → p ≤ length s → Bounded (length s) 4097 (rules s p)
+  rules-bounded : (p : ℕ) → p ≤ length s → Bounded (length s) p (rules s p)
   unfolding rules chain
-  rules-bounded p h = go (rules s p) (bounded (suc (length s)) (Another 0) p h)
-    where
-      go : (x : Read (List Rule × Unit {0})) → Bounded (length s) (suc (length s)) x → Bounded (length s) 4097 x
-      go (got l j) b = omega arith
-      go none b = tt
-      go (refused k q) b = b
+  rules-bounded p h = bounded (suc (length s)) (Another 0) p h
+
+  -- the records of a text are at most its bytes
+  pub records-few : (p : ℕ) {l : List Rule × Unit {0}} {j : ℕ} → p ≤ length s → rules s p ≡ got l j → p + length (records (l .0)) ≤ length s
+  records-few p {l} h e = subst (Bounded (length s) p) e (rules-bounded p h)
 
 -- ---- answers
 
 -- the numbers of an answer are small
 pub record Small (a : Answer) : Type 0 where
   pub place : a .place ≤ 4096
-  pub records : a .records ≤ 16785409
+  pub records : a .records ≤ 4096
   pub warnings : a .warnings ≤ 4096
 
 -- a refusal's
@@ -123,14 +122,14 @@ refusal-small number place h = record { place = h; records = omega arith; warnin
 -- a text's
 pub text-small : (s : List ℕ) (p n : ℕ) → length s ≤ 4096 → p ≤ length s → Small (textOf s p n .0)
 unfolding textOf
-text-small s p n small h = go (rules s p) (rules-bounded s small p h)
+text-small s p n small h = go (rules s p) (rules-bounded s p h)
   where
-    full : (l : List (List ℤ)) → length l ≤ 16785409 → (b : Bool) → Small ((if b then refusal 10 p else (answerOf 0 0 (length l) (warningsOf (drop p s)), l)) .0)
+    full : (l : List (List ℤ)) → length l ≤ 4096 → (b : Bool) → Small ((if b then refusal 10 p else (answerOf 0 0 (length l) (warningsOf (drop p s)), l)) .0)
     full l k true = refusal-small 10 p (omega arith)
     full l k false = record { place = omega arith; records = k; warnings = omega (arith, warnings-few false false (drop p s), length-drop p s) }
 
-    go : (x : Read (List Rule × Unit {0})) → Bounded (length s) 4097 x → Small (judgedText s p n x .0)
-    go (got l j) b = full (records (l .0)) b (ltb (n / 16) (length (records (l .0))))
+    go : (x : Read (List Rule × Unit {0})) → Bounded (length s) p x → Small (judgedText s p n x .0)
+    go (got l j) b = full (records (l .0)) (omega arith) (ltb (n / 16) (length (records (l .0))))
     go none b = refusal-small 3 p (omega arith)
     go (refused k q) b = refusal-small k q (omega arith)
 

@@ -2,9 +2,11 @@ pub mod Laws
 pub mod Warned
 pub mod Short
 pub mod Moves
+pub mod Sure
+pub mod Takes
+pub mod Fills
 pub mod Turns
 pub mod Readings
-pub mod Copies
 pub mod Noted
 pub mod Apart
 pub mod PartLaws

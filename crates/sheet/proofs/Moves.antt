@@ -12,15 +12,16 @@ use Rattle.names.proofs.Local.{Tail, Ended, stop-end, Ends, moved, keep, Local,
 use Rattle.names.proofs.Chains.{step-moves, chain-moves, chain-local}
 use Rattle.names.proofs.Fuel.{chain-is}
 use Rattle.names.proofs.Cut.{blanks-local}
-use Rattle.rules.specs.Musts.{must}
+use Rattle.items.specs.Musts.{must}
 use Rattle.rules.specs.Rules.{Rule, next}
 use Rattle.rules.specs.declared.Next.{Next}
 use Rattle.rules.specs.declared.Next.the-variants.{Another, Finished}
-use Rattle.rules.proofs.Cut.{ruleMoves, missing-local, rule-local, next-ended}
+use Rattle.items.proofs.Cut.{missing-local}
+use Rattle.rules.proofs.Cut.{ruleMoves, rule-local, next-ended}
 use Rattle.sheet.specs.Texts.{movedTo, placed, parted, moreRules, noMore, rules}
 
 -- what parts a rule from the next has to stand there
-must-next : {u : List ℕ} → Local Ended keep u false false 0 (must next) (must next)
+pub must-next : {u : List ℕ} → Local Ended keep u false false 0 (must next) (must next)
 must-next = or-local next-ended (narrow missing-local)
 
 -- a rule and what parts it from the next

@@ -1,110 +1,195 @@
--- What the counted rules of a text come to: a refusal, too little room, or an answer and a filled table, of words or of bytes.
-use Prim.Native.Nat.{ℕ, _+_, _*_, _/_, _≤_, _<_}
-use mathlib.Core.List.{List, []}
-use mathlib.Core.Bool.{true, false}
-use mathlib.Core.Path.{_≡_, refl, ap, _∙_, subst}
+-- What the counted rules of a text come to: a refusal, too little room, or an answer and the tables with its records.
+use Prim.Native.Nat.{ℕ, _*_, _/_, _≤_, _<_}
+use mathlib.Core.List.{List, [], _∷_}
+use mathlib.Core.Bool.{Bool, true, false, not}
+use mathlib.Core.Path.{_≡_, refl, sym, ap, _∙_}
 use native.Mathlib.Omega.{arith}
+use native.Mathlib.Nat.{zero-add, div-mul-le-self}
+use lib.Dec.{ltb}
+use lib.IntN.{ℤ}
 use lib.ListN.{length, take, drop}
-use borrow.Author.Tests.{lt-ltb, le-ltb}
-use Rattle.names.specs.Read.{Read, got, none, refused}
+use borrow.Author.Tests.{lt-ltb, le-ltb, ltb-false}
+use Rattle.names.specs.Tests.{if_then_else_}
+use Rattle.names.specs.Read.{Read, got, none, refused, follow, nothing, pure}
+use Rattle.records.specs.Tables.{Layout, asWords, asBytes, kept, Tables, keptIn, allKept, recordsIn}
+use Rattle.records.proofs.Keeps.{all-laid}
+use Rattle.records.proofs.Cells.{Sixteen, sixteen-append, items-sixteen, records-back}
 use Rattle.rules.specs.Rules.{Rule}
-use Rattle.rules.specs.Tables.{Layout, laid}
-use Rattle.sheet.specs.Texts.{rules, records}
+use Rattle.sheet.specs.Texts.{rules, ruleRecords, records}
 use Rattle.sheet.specs.Warnings.{warningsOf}
-use Rattle.sheet.specs.Sheets.{answerOf, refusal, judgedText, textOf, writtenAs, sheetOf}
+use Rattle.sheet.specs.Into.{rulesInto, into}
+use Rattle.sheet.specs.Sheets.{answerOf, refusal, judgedText, textOf, writtenAs, sheetOf, wordsIn}
 use Rattle.sheet.specs.Parts.{begins, partEnd}
 use Rattle.sheet.specs.PartReadings.{withNext, partRefusal, partOf}
-use Rattle.sheet.specs.Seen.{countFrom, RoomFromIn, fillFromAs}
+use Rattle.sheet.specs.Seen.{seenRulesInto}
 use Rattle.sheet.specs.declared.Answer.{Answer}
+use Rattle.sheet.specs.declared.PartAnswer.{PartAnswer}
 use Rattle.sheet.specs.declared.Counted.{Counted}
 use Rattle.sheet.specs.declared.Counted.the-variants.{Got, Refused}
+use Rattle.sheet.proofs.Fills.{head-sixteen}
 
--- rules that were counted, and not refused
-abbrev Counts : Counted → Type 0
-Counts (Got n) = Unit {0}
-Counts (Refused k q) = ⊥
+-- ---- a text's records
 
-module _ {A : Type 0} (d : Layout A) where
-  -- nothing is written
-  written-none : {B : Type 0} (a : B) (t : List A) → (a, t) ≡ writtenAs d t (a, [])
-  unfolding laid
-  written-none a t = refl
+-- each has 16 words
+pub records-sixteen : (l : List Rule) → Sixteen (records l)
+unfolding records
+records-sixteen [] = tt
+records-sixteen (r ∷ l) = sixteen-append (ruleRecords r) (records l) (head-sixteen (r .0), items-sixteen (r .1)) (records-sixteen l)
 
-  module _ (s : List ℕ) (p n : ℕ) (t : List A) where
-    abbrev Rules : Type 0
-    Rules = Read (List Rule × Unit {0})
+-- a reading's records are as many as it says, of 16 words each, and a table of n words holds them
+pub record Held (n count : ℕ) (rs : List (List ℤ)) : Type 0 where
+  pub many : count ≡ length rs
+  pub long : Sixteen rs
+  pub room : length rs ≤ n / 16
 
-    -- more records than a table of n words has room for
-    pub text-full : {m : ℕ} → Got m ≡ countFrom 0 p (rules s p) → n / 16 < m → (refusal 10 p .0, t) ≡ writtenAs d t (textOf s p n)
-    unfolding textOf
-    text-full {m} e h = go (rules s p) e
-      where
-        go : (x : Rules) → Got m ≡ countFrom 0 p x → (refusal 10 p .0, t) ≡ writtenAs d t (judgedText s p n x)
-        go (got l j) e =
-            let c : m ≡ 0 + length (records (l .0)) = cc in
-            let k : n / 16 < length (records (l .0)) = omega (arith, h, c) in
-            written-none (refusal 10 p .0) t ∙ rw (lt-ltb _ _ k)
-        go none e = cc
-        go (refused k q) e = cc
+-- no records
+held-none : (n : ℕ) → Held n 0 []
+held-none n = record { many = refl; long = tt; room = omega arith }
 
-    -- a refusal
-    pub text-refused : {k q : ℕ} → Refused k q ≡ countFrom 0 p (rules s p) → (refusal k q .0, t) ≡ writtenAs d t (textOf s p n)
-    unfolding textOf
-    text-refused {k} {q} e = go (rules s p) e
-      where
-        go : (x : Rules) → Refused k q ≡ countFrom 0 p x → (refusal k q .0, t) ≡ writtenAs d t (judgedText s p n x)
-        go (got l j) e = cc
-        go none e = let a : k ≡ 3 = cc in let b : q ≡ p = cc in rw (a, b) (written-none (refusal 3 p .0) t)
-        go (refused m r) e = let a : k ≡ m = cc in let b : q ≡ r = cc in rw (a, b) (written-none (refusal m r .0) t)
-
-    -- the text is accepted
-    pub text-accepted : {m : ℕ} → Got m ≡ countFrom 0 p (rules s p) → m ≤ n / 16 → (answerOf 0 0 m (warningsOf (drop p s)), fillFromAs d t 0 (rules s p)) ≡ writtenAs d t (textOf s p n)
-    unfolding textOf
-    text-accepted {m} e h = go (rules s p) e
-      where
-        go : (x : Rules) → Got m ≡ countFrom 0 p x → (answerOf 0 0 m (warningsOf (drop p s)), fillFromAs d t 0 x) ≡ writtenAs d t (judgedText s p n x)
-        go (got l j) e =
-            let c : m ≡ length (records (l .0)) = (let c : m ≡ 0 + length (records (l .0)) = cc in omega (arith, c)) in
-            let k : length (records (l .0)) ≤ n / 16 = omega (arith, h, c) in
-            rw (c, le-ltb _ _ k)
-        go none e = cc
-        go (refused k q) e = cc
-
--- its records have room
-pub text-room : (s : List ℕ) (p w l : ℕ) {m : ℕ} → Got m ≡ countFrom 0 p (rules s p) → m * w ≤ l → RoomFromIn w l 0 (rules s p)
-text-room s p w l {m} e h = go (rules s p) e
+-- those of a text
+text-held : (s : List ℕ) (p n : ℕ) → Held n (textOf s p n .0 .records) (textOf s p n .1)
+unfolding textOf
+text-held s p n = go (rules s p)
   where
-    go : (x : Read (List Rule × Unit {0})) → Got m ≡ countFrom 0 p x → RoomFromIn w l 0 x
-    go (got a j) e = let c : m ≡ 0 + length (records (a .0)) = cc in subst (λ (k : ℕ). k * w ≤ l) c h
-    go none e = absurd (subst Counts e tt)
-    go (refused k q) e = absurd (subst Counts e tt)
+    all : (l : List Rule) (full : Bool) → ltb (n / 16) (length (records l)) ≡ full →
+        Held n ((if full then refusal 10 p else (answerOf 0 0 (length (records l)) (warningsOf (drop p s)), records l)) .0 .records) ((if full then refusal 10 p else (answerOf 0 0 (length (records l)) (warningsOf (drop p s)), records l)) .1)
+    all l true e = held-none n
+    all l false e = record { many = refl; long = records-sixteen l; room = ltb-false (n / 16) (length (records l)) e }
 
-module _ {A : Type 0} (d : Layout A) (s : List ℕ) (n : ℕ) (t : List A) where
-  -- a sheet of over 4,096 bytes is not read
-  pub sheet-long : 4096 < length s → (refusal 1 0 .0, t) ≡ writtenAs d t (sheetOf s n)
-  unfolding sheetOf
-  sheet-long h = rw (lt-ltb 4096 (length s) h) (written-none d (refusal 1 0 .0) t)
+    go : (x : Read (List Rule × Unit {0})) → Held n (judgedText s p n x .0 .records) (judgedText s p n x .1)
+    go (got l j) = all (l .0) (ltb (n / 16) (length (records (l .0)))) refl
+    go none = held-none n
+    go (refused k q) = held-none n
 
-  -- another is a text from its first byte on
-  pub sheet-text : length s ≤ 4096 → writtenAs d t (textOf s 0 n) ≡ writtenAs d t (sheetOf s n)
-  unfolding sheetOf
-  sheet-text h = rw (le-ltb 4096 (length s) h)
+-- what holds of both holds of either
+either : {A : Type 0} (P : A → Type 0) (c : Bool) {a b : A} → P a → P b → P (if c then a else b)
+either P true h k = h
+either P false h k = k
 
--- ---- parts
+-- of a part
+pub part-held : (s : List ℕ) (p n : ℕ) → Held n (partOf s p n .0 .records) (partOf s p n .1)
+unfolding partOf withNext
+part-held s p n =
+    let P : PartAnswer × List (List ℤ) → Type 0 = λ r. Held n (r .0 .records) (r .1) in
+    let u = take (partEnd s p) s in
+    let h = text-held u p n in
+    either P (ltb 4096 (length s)) (held-none n) (either P (not (begins s p)) (held-none n) (either (λ (a : PartAnswer). Held n (a .records) (textOf u p n .1)) (ltb (partEnd s p) (length s)) h h))
 
-module _ {A : Type 0} (d : Layout A) (s : List ℕ) (p n : ℕ) (t : List A) where
-  -- in a sheet of over 4,096 bytes no part is read
-  pub part-long : 4096 < length s → (partRefusal 1 .0, t) ≡ writtenAs d t (partOf s p n)
-  unfolding partOf
-  part-long h = rw (lt-ltb 4096 (length s) h) (written-none d (partRefusal 1 .0) t)
+-- and of a sheet
+pub sheet-held : (s : List ℕ) (n : ℕ) → Held n (sheetOf s n .0 .records) (sheetOf s n .1)
+unfolding sheetOf
+sheet-held s n = either (λ (r : Answer × List (List ℤ)). Held n (r .0 .records) (r .1)) (ltb 4096 (length s)) (held-none n) (text-held s 0 n)
 
-  -- nor where none begins
-  pub part-nowhere : length s ≤ 4096 → begins s p ≡ false → (partRefusal 2 .0, t) ≡ writtenAs d t (partOf s p n)
-  unfolding partOf
-  part-nowhere h e = rw (le-ltb 4096 (length s) h, e) (written-none d (partRefusal 2 .0) t)
+-- ---- rules that were counted and kept
 
-  -- a part is the text up to its end, from its beginning on
-  pub part-text : {a : Answer} {t′ : List A} → length s ≤ 4096 → begins s p ≡ true → (a, t′) ≡ writtenAs d t (textOf (take (partEnd s p) s) p n) → (withNext s (partEnd s p) a, t′) ≡ writtenAs d t (partOf s p n)
-  unfolding partOf
-  part-text {a} {t′} h e f =
-      ap (λ (r : Answer × List A). (withNext s (partEnd s p) (r .0), r .1)) f ∙ rw (le-ltb 4096 (length s) h, e)
+-- the rules of a text are read: they have n records, and tables t with these are t′
+pub record Kept (t t′ : Tables) (s : List ℕ) (p n : ℕ) : Type 0 where
+  pub list : List Rule
+  pub end : ℕ
+  pub is : rules s p ≡ got (list, tt) end
+  pub many : n ≡ length (records list)
+  pub all : t′ ≡ allKept t 0 (records list)
+
+module _ (s : List ℕ) (p : ℕ) where
+  abbrev Rules : Type 0
+  Rules = Read (List Rule × Unit {0})
+
+  -- counted, and not refused
+  pub kept-is : (t t′ : Tables) {n j : ℕ} → rulesInto t s p ≡ got (n, t′) j → Kept t t′ s p n
+  kept-is t t′ {n} {j} = go (rules s p) refl
+    where
+      go : (x : Rules) → rules s p ≡ x → follow {B = ℕ × Tables} s p x (λ l. pure (length (records (l .0)), allKept t 0 (records (l .0)))) nothing ≡ got (n, t′) j → Kept t t′ s p n
+      go (got l k) e f =
+          let v : _≡_ {A = ℕ × Tables} (length (records (l .0)), allKept t 0 (records (l .0))) (n, t′) = cc in
+          record { list = l .0; end = k; is = e; many = sym (ap (λ (y : ℕ × Tables). y .0) v); all = sym (ap (λ (y : ℕ × Tables). y .1) v) }
+      go none e f = let z : _≡_ {A = ℕ} 0 1 = cc in absurd (omega arith)
+      go (refused k q) e f = let z : _≡_ {A = ℕ} 0 1 = cc in absurd (omega arith)
+
+  -- a refusal
+  pub text-refused : (t u : Tables) (m : ℕ) {k q : ℕ} → rulesInto t s p ≡ refused k q → (refusal k q .0, u) ≡ into u (textOf s p m)
+  unfolding textOf allKept
+  text-refused t u m {k} {q} = go (rules s p)
+    where
+      go : (x : Rules) → follow {B = ℕ × Tables} s p x (λ l. pure (length (records (l .0)), allKept t 0 (records (l .0)))) nothing ≡ refused k q → (refusal k q .0, u) ≡ into u (judgedText s p m x)
+      go (got l j) e = cc
+      go none e = cc
+      go (refused a b) e = let f : a ≡ k = cc in let g : b ≡ q = cc in rw (f, g)
+
+  module _ (t t′ u : Tables) {n : ℕ} (k : Kept t t′ s p n) where
+    -- read again into other tables
+    pub again : (r : Counted) {u′ : Tables} → rulesInto u s p ≡ seenRulesInto r u′ → u′ ≡ allKept u 0 (records (k .list))
+    again (Got m c) {u′} e =
+        let v : _≡_ {A = Read (ℕ × Tables)} (got (length (records (k .list)), allKept u 0 (records (k .list))) (k .end)) (got (m, u′) (c .at)) = rw (k .is) at e in
+        let w : _≡_ {A = ℕ × Tables} (length (records (k .list)), allKept u 0 (records (k .list))) (m, u′) = cc in
+        sym (ap (λ (y : ℕ × Tables). y .1) w)
+    again (Refused m q) e = let v : _≡_ {A = Read (ℕ × Tables)} (got (length (records (k .list)), allKept u 0 (records (k .list))) (k .end)) (refused m q) = rw (k .is) at e in cc
+
+    -- taken out of the table of words, where it had room for all
+    pub taken : n * 16 ≤ length (t .0) → recordsIn n (t′ .0) ≡ records (k .list)
+    taken h =
+        let rs = records (k .list) in
+        let room : length rs * 16 ≤ length (t .0) = rw (k .many) at h in
+        rw (k .many, k .all, all-laid asWords (λ x. x .0) (λ _ _ _. refl) rs t 0 (omega arith)) (records-back rs (t .0) (records-sixteen (k .list)) room)
+
+    module _ (m : ℕ) where
+      -- more records than a table of m words has room for
+      pub text-full : m / 16 < n → (refusal 10 p .0, u) ≡ into u (textOf s p m)
+      unfolding textOf allKept
+      text-full h = let g : m / 16 < length (records (k .list)) = omega (arith, h, k .many) in rw (k .is, lt-ltb _ _ g)
+
+      -- the text is accepted
+      pub text-accepted : n ≤ m / 16 → (answerOf 0 0 n (warningsOf (drop p s)), allKept u 0 (records (k .list))) ≡ into u (textOf s p m)
+      unfolding textOf
+      text-accepted h = let g : length (records (k .list)) ≤ m / 16 = omega (arith, h, k .many) in rw (k .is, le-ltb _ _ g, k .many)
+
+-- ---- sheets and parts
+
+module _ (u : Tables) where
+  -- nothing is kept
+  into-none : {A : Type 0} (a : A) → (a, u) ≡ into u (a, [])
+  unfolding allKept
+  into-none a = refl
+
+  module _ (s : List ℕ) (n : ℕ) where
+    -- a sheet of over 4,096 bytes is not read
+    pub sheet-long : 4096 < length s → (refusal 1 0 .0, u) ≡ into u (sheetOf s n)
+    unfolding sheetOf
+    sheet-long h = rw (lt-ltb 4096 (length s) h) (into-none (refusal 1 0 .0))
+
+    -- another is a text from its first byte on
+    pub sheet-text : length s ≤ 4096 → into u (textOf s 0 n) ≡ into u (sheetOf s n)
+    unfolding sheetOf
+    sheet-text h = rw (le-ltb 4096 (length s) h)
+
+  module _ (s : List ℕ) (p n : ℕ) where
+    -- in a sheet of over 4,096 bytes no part is read
+    pub part-long : 4096 < length s → (partRefusal 1 .0, u) ≡ into u (partOf s p n)
+    unfolding partOf
+    part-long h = rw (lt-ltb 4096 (length s) h) (into-none (partRefusal 1 .0))
+
+    -- nor where none begins
+    pub part-nowhere : length s ≤ 4096 → begins s p ≡ false → (partRefusal 2 .0, u) ≡ into u (partOf s p n)
+    unfolding partOf
+    part-nowhere h e = rw (le-ltb 4096 (length s) h, e) (into-none (partRefusal 2 .0))
+
+    -- a part is the text up to its end, from its beginning on
+    pub part-text : {a : Answer} {u′ : Tables} → length s ≤ 4096 → begins s p ≡ true → (a, u′) ≡ into u (textOf (take (partEnd s p) s) p n) → (withNext s (partEnd s p) a, u′) ≡ into u (partOf s p n)
+    unfolding partOf
+    part-text h e f = ap (λ (r : Answer × Tables). (withNext s (partEnd s p) (r .0), r .1)) f ∙ rw (le-ltb 4096 (length s) h, e)
+
+-- ---- one of the tables
+
+-- a reading's records kept in a table that holds them are written over it
+into-written : {A B : Type 0} (d : Layout B) (of : Tables → List B) (one : (t : Tables) (k : ℕ) (r : List ℤ) → of (keptIn t k r) ≡ kept d (of t) k r) (t : Tables) {t′ : Tables} {a : A} (x : A × List (List ℤ)) →
+    length (x .1) * d .width ≤ length (of t) → (a, t′) ≡ into t x → (a, of t′) ≡ writtenAs d (of t) x
+into-written {A} {B} d of one t x h e =
+    ap (λ (y : A × Tables). (y .0, of (y .1))) e
+    ∙ ap (λ (l : List B). (x .0, l)) (all-laid d of one (x .1) t 0 (rw (zero-add (length (x .1))) h))
+
+-- of words
+pub into-words : {A : Type 0} {count : ℕ} (t : Tables) {t′ : Tables} {a : A} (x : A × List (List ℤ)) → Held (length (t .0)) count (x .1) → (a, t′) ≡ into t x → (a, t′ .0) ≡ writtenAs asWords (t .0) x
+into-words t x h = into-written asWords (λ y. y .0) (λ _ _ _. refl) t x (omega (arith, h .room, div-mul-le-self (length (t .0)) 16))
+
+-- of bytes
+pub into-bytes : {A : Type 0} {count : ℕ} (t : Tables) {t′ : Tables} {a : A} (x : A × List (List ℤ)) → Held (wordsIn (length (t .1))) count (x .1) → (a, t′) ≡ into t x → (a, t′ .1) ≡ writtenAs asBytes (t .1) x
+into-bytes t x h = into-written asBytes (λ y. y .1) (λ _ _ _. refl) t x (omega (arith, h .room, div-mul-le-self (length (t .1)) 64))

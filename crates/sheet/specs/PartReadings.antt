@@ -6,7 +6,7 @@ use lib.Dec.{ltb}
 use lib.IntN.{ℤ}
 use lib.ListN.{length, take}
 use Rattle.names.specs.Tests.{if_then_else_}
-use Rattle.rules.specs.Tables.{asBytes}
+use Rattle.records.specs.Tables.{asBytes}
 use Rattle.sheet.specs.Parts.{begins, partEnd}
 use Rattle.sheet.specs.Sheets.{refusal, textOf, written, writtenAs, wordsIn}
 use Rattle.sheet.specs.declared.Answer.{Answer}

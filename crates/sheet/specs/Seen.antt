@@ -1,45 +1,36 @@
 -- What an answer of the code says, in the definitions' terms.
-use Prim.Native.Nat.{ℕ, _+_, _*_, _≤_}
+use Prim.Native.Nat.{ℕ, _≤_}
 use mathlib.Core.Bool.{Bool, true, false, _&&_, not}
 use mathlib.Core.List.{List}
 use mathlib.Core.Path.{_≡_}
-use lib.ListN.{length, getD, drop}
+use lib.ListN.{getD, drop}
 use Rattle.names.specs.Tests.{within}
-use Rattle.names.specs.Read.{Read, got, none, refused}
-use Rattle.rules.specs.Rules.{Rule}
-use Rattle.rules.specs.Tables.{Layout, laid, Holds}
+use Rattle.names.specs.Read.{Read, got, refused}
+use Rattle.records.specs.Tables.{Tables}
+use Rattle.rules.specs.declared.Head.{Head}
 use Rattle.rules.specs.declared.Next.{Next}
-use Rattle.sheet.specs.Texts.{records}
+use Rattle.rules.specs.declared.RuleRead.{RuleRead}
+use Rattle.rules.specs.declared.RuleRead.the-variants as rule
 use Rattle.sheet.specs.Warnings.{isLetter, warningsIn}
 use Rattle.sheet.specs.declared.Parted.{Parted}
 use Rattle.sheet.specs.declared.Parted.the-variants as parted
 use Rattle.sheet.specs.declared.Counted.{Counted}
-use Rattle.sheet.specs.declared.Counted.the-variants.{Got, Refused}
+use Rattle.sheet.specs.declared.Counted.the-variants as counted
 
 -- how many items a rule has, and what parts it from the next
 abbrev pub seenParted : Parted → Read (ℕ × Next)
 seenParted (parted.Got items next c) = got (items, next) (c .at)
 seenParted (parted.Refused k p) = refused k p
 
--- the rules of a text, of which n records were counted before: how many records there are, or the refusal. A text has rules, if only refused ones: p stands for nothing
-abbrev pub countFrom : ℕ → ℕ → Read (List Rule × Unit {0}) → Counted
-countFrom n p (got l j) = Got (n + length (records (l .0)))
-countFrom n p none = Refused 3 p
-countFrom n p (refused k q) = Refused k q
+-- a rule's head, and the tables afterwards
+abbrev pub seenRuleInto : RuleRead → Tables → Read (Head × Tables)
+seenRuleInto (rule.Got h c) t = got (h, t) (c .at)
+seenRuleInto (rule.Refused k p) t = refused k p
 
--- the rules of a text are accepted, and their records have room in l cells, w to a slot, from slot k on
-abbrev pub RoomFromIn : ℕ → ℕ → ℕ → Read (List Rule × Unit {0}) → Type 0
-RoomFromIn w l k = Holds (λ r. (k + length (records (r .0))) * w ≤ l)
-
--- a table with the records of rules written over it from slot k on
-abbrev pub fillFromAs : {A : Type 0} → Layout A → List A → ℕ → Read (List Rule × Unit {0}) → List A
-fillFromAs d t k (got l j) = laid d t k (records (l .0))
-fillFromAs d t k none = t
-fillFromAs d t k (refused e q) = t
-
--- a table t with the records of rules written over it, where it has room for them
-abbrev pub FilledFrom : {A : Type 0} → Layout A → List A → List A → Read (List Rule × Unit {0}) → Type 0
-FilledFrom d t t′ r = RoomFromIn (d .width) (length t) 0 r → t′ ≡ fillFromAs d t 0 r
+-- how many records the rules of a text have, and the tables afterwards
+abbrev pub seenRulesInto : Counted → Tables → Read (ℕ × Tables)
+seenRulesInto (counted.Got n c) t = got (n, t) (c .at)
+seenRulesInto (counted.Refused k p) t = refused k p
 
 -- a capital, a small letter and no letter behind them
 unfoldable pub shortCapital : List ℕ → Bool

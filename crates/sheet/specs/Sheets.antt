@@ -7,7 +7,7 @@ use lib.ListN.{length, drop}
 use Rattle.names.specs.Tests.{if_then_else_}
 use Rattle.names.specs.Read.{Read, got, none, refused}
 use Rattle.rules.specs.Rules.{Rule}
-use Rattle.rules.specs.Tables.{Layout, asWords, asBytes, laid}
+use Rattle.records.specs.Tables.{Layout, asWords, asBytes, laid}
 use Rattle.sheet.specs.Texts.{rules, records}
 use Rattle.sheet.specs.Warnings.{warningsOf}
 use Rattle.sheet.specs.declared.Answer.{Answer}
@@ -26,7 +26,7 @@ stored s p n rs =
     if ltb (n / 16) (length rs) then refusal 10 p
     else (answerOf 0 0 (length rs) (warningsOf (drop p s)), rs)
 
--- what the rules of a text come to
+-- what the rules of a text come to. They are read or refused: there is never none of them (`rules-sure`, proofs/Sure.antt)
 abbrev pub judgedText : List ℕ → ℕ → ℕ → Read (List Rule × Unit {0}) → Answer × List (List ℤ)
 judgedText s p n (got l j) = stored s p n (records (l .0))
 judgedText s p n none = refusal 3 p
@@ -56,11 +56,7 @@ writtenAs d t r = (r .0, tableAfterAs d t (r .1))
 abbrev pub written : {A : Type 0} → List ℤ → A × List (List ℤ) → A × List ℤ
 written = writtenAs asWords
 
--- the same of a text, from place p on
-unfoldable pub textReading : List ℕ → ℕ → List ℤ → Answer × List ℤ
-textReading s p t = written t (textOf s p (length t))
-
--- and of a sheet
+-- the same of a sheet
 unfoldable pub sheetReading : List ℕ → List ℤ → Answer × List ℤ
 sheetReading s t = written t (sheetOf s (length t))
 
@@ -68,10 +64,6 @@ sheetReading s t = written t (sheetOf s (length t))
 abbrev pub wordsIn : ℕ → ℕ
 wordsIn n = n / 64 * 16
 
--- what reading a text into a table of bytes answers, and the table afterwards
-unfoldable pub textReadingBytes : List ℕ → ℕ → List ℕ → Answer × List ℕ
-textReadingBytes s p t = writtenAs asBytes t (textOf s p (wordsIn (length t)))
-
--- and a sheet
+-- what reading a sheet into a table of bytes answers, and the table afterwards
 unfoldable pub sheetReadingBytes : List ℕ → List ℕ → Answer × List ℕ
 sheetReadingBytes s t = writtenAs asBytes t (sheetOf s (wordsIn (length t)))

@@ -1,15 +1,16 @@
 -- The rules of a text, left to right, and their records.
 use Prim.Native.Nat.{ℕ}
-use mathlib.Core.List.{List, [], _∷_, _++_}
+use mathlib.Core.List.{List, [], _∷_, _++_, map}
 use lib.IntN.{ℤ}
 use Rattle.names.specs.Read.{Read, got, none, refused, Reader, nothing, pure, _>>=_, _>>_}
 use Rattle.names.specs.Chain.{chain}
 use Rattle.names.specs.Texts.{blanks}
-use Rattle.rules.specs.Musts.{must}
+use Rattle.records.specs.Words.{wordsOf}
+use Rattle.items.specs.Musts.{must}
 use Rattle.rules.specs.Rules.{Rule, rule, next}
-use Rattle.rules.specs.Tables.{ruleRecords}
 use Rattle.rules.specs.declared.Next.{Next}
 use Rattle.rules.specs.declared.Next.the-variants.{Another, Finished}
+use Rattle.sheet.specs.Heads.{headWords}
 
 -- a reading, with each refusal at the place p
 abbrev pub movedTo : {A : Type 0} → ℕ → Read A → Read A
@@ -50,7 +51,11 @@ noMore Finished = pure tt
 unfoldable pub rules : Reader (List Rule × Unit {0})
 rules = chain moreRules noMore (Another 0)
 
--- the records of rules: a rule's head comes first, then its items
+-- a rule's records: its head comes first, then its items in reading order
+abbrev pub ruleRecords : Rule → List (List ℤ)
+ruleRecords r = headWords (r .0) ∷ map wordsOf (r .1)
+
+-- the records of rules
 unfoldable pub records : List Rule → List (List ℤ)
 records [] = []
 records (r ∷ rs) = ruleRecords r ++ records rs

@@ -1,22 +1,21 @@
 // A whole sheet, and its parts.
-mod byte_parts;
-mod byte_sheets;
-mod byte_texts;
+mod heads;
 mod notes;
 mod part_readings;
 mod parts;
+mod rule;
 mod sheets;
 mod texts;
 mod warnings;
 
-pub use byte_parts::read_part_bytes;
-pub use byte_sheets::read_sheet_bytes;
 use names::Cursor;
 pub use notes::note;
 pub use notes::note_part;
 pub use part_readings::read_part;
+pub use part_readings::read_part_bytes;
 use rules::Next;
 pub use sheets::read_sheet;
+pub use sheets::read_sheet_bytes;
 
 // What reading a sheet answers.
 pub struct Answer {
@@ -49,8 +48,8 @@ pub enum Parted {
     Refused(u8, usize),
 }
 
-// What reading the rules of a text finds: how many records they have, or a refusal with its number and place.
+// What reading the rules of a text finds: how many records they have and the place after them, or a refusal with its number and place.
 pub enum Counted {
-    Got(usize),
+    Got(usize, Cursor),
     Refused(u8, usize),
 }

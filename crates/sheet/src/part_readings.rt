@@ -1,6 +1,7 @@
 // Reading a part.
 ghost use mathlib.Core.Path.{_≡_};
 ghost use Rattle.sheet.specs.PartReadings as parts;
+ghost use Rattle.sheet.specs.Into.{into};
 use crate::Answer;
 use crate::PartAnswer;
 use crate::parts::begins;
@@ -23,7 +24,7 @@ fn part_answer_of(a: Answer, next: usize, last: bool) -> PartAnswer
 }
 
 // The answer of a part that ends at e.
-pub fn with_next(s: &[u8], e: usize, a: Answer) -> PartAnswer
+fn with_next(s: &[u8], e: usize, a: Answer) -> PartAnswer
     ensures { λ r. ⌜ r ≡ parts.withNext (now (s .entry)) e a ⌝ }
 {
     if e < s.len() {
@@ -34,24 +35,40 @@ pub fn with_next(s: &[u8], e: usize, a: Answer) -> PartAnswer
 }
 
 // 1 and 2 give next 0, last.
-pub fn part_refusal(number: u8) -> PartAnswer
+fn part_refusal(number: u8) -> PartAnswer
     ensures { λ r. ⌜ r ≡ parts.partRefusal number .0 ⌝ }
 {
     part_answer_of(refusal(number, 0), 0, true)
 }
 
-// The part that begins at a place is read into a table of words.
-pub fn read_part(sheet: &[u8], place: usize, table: &mut [i32]) -> PartAnswer
-    ensures { λ r. ⌜ (r, now (table .exit)) ≡ parts.partReading (now (sheet .entry)) place (now (table .entry)) ⌝ }
+// The part that begins at a place is read into both tables, if a table of `size` words has room for its records.
+fn part_into(sheet: &[u8], place: usize, size: usize, words: &mut [i32], bytes: &mut [u8]) -> PartAnswer
+    ensures { λ r. ⌜ (r, (now (words .exit), now (bytes .exit))) ≡ into (now (words .entry), now (bytes .entry)) (parts.partOf (now (sheet .entry)) place size) ⌝ }
 {
     if 4096 < sheet.len() {
         return part_refusal(1);
     }
     if begins(sheet, place) {
         let e = part_end(sheet, place);
-        let a = read_text(&sheet[..e], place, table);
+        let a = read_text(&sheet[..e], place, size, words, bytes);
         with_next(sheet, e, a)
     } else {
         part_refusal(2)
     }
+}
+
+// The part that begins at a place is read into a table of words.
+pub fn read_part(sheet: &[u8], place: usize, table: &mut [i32]) -> PartAnswer
+    ensures { λ r. ⌜ (r, now (table .exit)) ≡ parts.partReading (now (sheet .entry)) place (now (table .entry)) ⌝ }
+{
+    let mut none = [0u8; 0];
+    part_into(sheet, place, table.len(), table, &mut none)
+}
+
+// The part that begins at a place is read into a table of bytes.
+pub fn read_part_bytes(sheet: &[u8], place: usize, table: &mut [u8]) -> PartAnswer
+    ensures { λ r. ⌜ (r, now (table .exit)) ≡ parts.partReadingBytes (now (sheet .entry)) place (now (table .entry)) ⌝ }
+{
+    let mut none = [0i32; 0];
+    part_into(sheet, place, table.len() / 64 * 16, &mut none, table)
 }

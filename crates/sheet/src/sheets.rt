@@ -1,13 +1,15 @@
 // Reading a text, and a sheet.
-ghost use Prim.Native.Nat.{_≤_};
+ghost use Prim.Native.Nat.{_+_, _*_, _≤_};
 ghost use mathlib.Core.Path.{_≡_};
-ghost use lib.ListN.{length};
-ghost use lib.Seq.{sets};
+ghost use lib.ListN.{length, take, drop};
+ghost use Rattle.records.specs.Tables.{allKept, recordsIn};
 ghost use Rattle.sheet.specs.Sheets as sheets;
+ghost use Rattle.sheet.specs.Into.{into};
 use crate::Answer;
 use crate::Counted;
 use crate::texts::fill_rules;
 use crate::warnings::warnings_of;
+use records::keep;
 
 // A refusal gives 0 records and 0 warnings.
 pub fn refusal(number: u8, place: usize) -> Answer
@@ -21,31 +23,49 @@ pub fn refusal(number: u8, place: usize) -> Answer
     }
 }
 
-// Words are copied to the front of a table that has room for them.
-fn copy_words(table: &mut [i32], from: &[i32])
-    requires { ⌜ length (now from) ≤ length (now table) ⌝ }
-    ensures { λ _. ⌜ now (table .exit) ≡ sets (now (table .entry)) 0 (now (from .entry)) ⌝ }
+// How many records a table of our own keeps while a text is counted.
+const FEW: usize = 7;
+
+// The record in a slot of a table of words.
+fn record_at(table: &[i32], slot: usize) -> [i32; 16]
+    requires { ⌜ slot * 16 + 16 ≤ length (now table) ⌝ }
+    ensures { λ r. ⌜ r ≡ take 16 (drop (slot * 16) (now (table .entry))) ⌝ }
 {
-    for i in 0..from.len() {
-        table[i] = from[i];
+    let base = slot * 16;
+    let mut w = [0i32; 16];
+    for i in 0..16 {
+        w[i] = table[base + i];
+    }
+    w
+}
+
+// The first n records of a table of words go into both tables, each where the table has its slot.
+fn put_records(from: &[i32], n: usize, words: &mut [i32], bytes: &mut [u8])
+    requires { ⌜ n * 16 ≤ length (now from) ⌝ }
+    ensures { λ _. ⌜ (now (words .exit), now (bytes .exit)) ≡ allKept (now (words .entry), now (bytes .entry)) 0 (recordsIn n (now (from .entry))) ⌝ }
+{
+    for slot in 0..n {
+        keep(words, bytes, slot, record_at(from, slot));
     }
 }
 
-// The text from place p on to the end of s is read into a table of words. Its records are kept in a table of our own until they are counted; more than that holds are read again.
-fn read_keeping(s: &[u8], p: usize, table: &mut [i32], keep: &mut [i32]) -> Answer
+// The text from place p on to the end of s is read into both tables, if a table of `size` words has room for its records. They are kept in a table of our own until they are counted; more than it holds are read again.
+pub fn read_text(s: &[u8], p: usize, size: usize, words: &mut [i32], bytes: &mut [u8]) -> Answer
     requires { ⌜ length (now s) ≤ 4096 ⌝ }
-    ensures { λ r. ⌜ (r, now (table .exit)) ≡ sheets.textReading (now (s .entry)) p (now (table .entry)) ⌝ }
+    ensures { λ r. ⌜ (r, (now (words .exit), now (bytes .exit))) ≡ into (now (words .entry), now (bytes .entry)) (sheets.textOf (now (s .entry)) p size) ⌝ }
 {
-    let counted = fill_rules(s, p, keep);
+    let mut few = [0i32; FEW * 16];
+    let mut none = [0u8; 0];
+    let counted = fill_rules(s, p, &mut few, &mut none);
     match counted {
-        Counted::Got(n) => {
-            if table.len() / 16 < n {
+        Counted::Got(n, _) => {
+            if size / 16 < n {
                 return refusal(10, p);
             }
-            if keep.len() / 16 < n {
-                fill_rules(s, p, table);
+            if FEW < n {
+                fill_rules(s, p, words, bytes);
             } else {
-                copy_words(table, &keep[..n * 16]);
+                put_records(&few, n, words, bytes);
             }
             Answer {
                 number: 0,
@@ -58,27 +78,28 @@ fn read_keeping(s: &[u8], p: usize, table: &mut [i32], keep: &mut [i32]) -> Answ
     }
 }
 
-// The text from place p on to the end of s is read into a table of words: counted first, then filled. Few records of a short text are kept, many of a long one.
-pub fn read_text(s: &[u8], p: usize, table: &mut [i32]) -> Answer
-    requires { ⌜ length (now s) ≤ 4096 ⌝ }
-    ensures { λ r. ⌜ (r, now (table .exit)) ≡ sheets.textReading (now (s .entry)) p (now (table .entry)) ⌝ }
-{
-    if p < s.len() {
-        if 1024 < s.len() - p {
-            let mut many = [0i32; 19200]; // 1,200 records
-            return read_keeping(s, p, table, &mut many);
-        }
-    }
-    let mut few = [0i32; 112]; // 7 records
-    read_keeping(s, p, table, &mut few)
-}
-
-// A sheet is read into a table of words: one of over 4,096 bytes is not read.
-pub fn read_sheet(sheet: &[u8], table: &mut [i32]) -> Answer
-    ensures { λ r. ⌜ (r, now (table .exit)) ≡ sheets.sheetReading (now (sheet .entry)) (now (table .entry)) ⌝ }
+// A sheet is read into both tables, if a table of `size` words has room for its records: one of over 4,096 bytes is not read.
+fn sheet_into(sheet: &[u8], size: usize, words: &mut [i32], bytes: &mut [u8]) -> Answer
+    ensures { λ r. ⌜ (r, (now (words .exit), now (bytes .exit))) ≡ into (now (words .entry), now (bytes .entry)) (sheets.sheetOf (now (sheet .entry)) size) ⌝ }
 {
     if 4096 < sheet.len() {
         return refusal(1, 0);
     }
-    read_text(sheet, 0, table)
+    read_text(sheet, 0, size, words, bytes)
+}
+
+// A sheet is read into a table of words.
+pub fn read_sheet(sheet: &[u8], table: &mut [i32]) -> Answer
+    ensures { λ r. ⌜ (r, now (table .exit)) ≡ sheets.sheetReading (now (sheet .entry)) (now (table .entry)) ⌝ }
+{
+    let mut none = [0u8; 0];
+    sheet_into(sheet, table.len(), table, &mut none)
+}
+
+// A sheet is read into a table of bytes.
+pub fn read_sheet_bytes(sheet: &[u8], table: &mut [u8]) -> Answer
+    ensures { λ r. ⌜ (r, now (table .exit)) ≡ sheets.sheetReadingBytes (now (sheet .entry)) (now (table .entry)) ⌝ }
+{
+    let mut none = [0i32; 0];
+    sheet_into(sheet, table.len() / 64 * 16, &mut none, table)
 }

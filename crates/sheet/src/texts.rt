@@ -4,16 +4,16 @@ ghost use mathlib.Core.Path.{_≡_};
 ghost use lib.ListN.{length};
 ghost use Rattle.names.specs.Read.{follow, nothing};
 ghost use Rattle.rules.specs.Seen.{seenRule};
-ghost use Rattle.rules.specs.Tables.{asWords};
 ghost use Rattle.sheet.specs.Texts as texts;
-ghost use Rattle.sheet.specs.Seen.{seenParted, countFrom, FilledFrom};
+ghost use Rattle.sheet.specs.Into.{rulesInto};
+ghost use Rattle.sheet.specs.Seen.{seenParted, seenRulesInto};
 use crate::Counted;
 use crate::Parted;
+use crate::rule::fill_rule;
 use names::Cursor;
 use rules::Next;
 use rules::NextRead;
 use rules::RuleRead;
-use rules::fill_rule;
 use rules::next_rule;
 
 // The blanks after a rule that was read at c, and what parts it from the next. A refusal's place is the rule's.
@@ -32,23 +32,22 @@ pub fn parted(s: &[u8], c: Cursor, r: RuleRead) -> Parted
     }
 }
 
-// The rules of the text from place p on are read: how many records they have, or their refusal. The records go into a table of words, where it has room for them.
-pub fn fill_rules(s: &[u8], p: usize, table: &mut [i32]) -> Counted
+// The rules of the text from place p on are read: how many records they have and the place after them, or their refusal. The records go into both tables, each where the table has its slot.
+pub fn fill_rules(s: &[u8], p: usize, words: &mut [i32], bytes: &mut [u8]) -> Counted
     requires { ⌜ length (now s) ≤ 4096 ⌝ }
-    ensures counted { λ r. ⌜ r ≡ countFrom 0 p (texts.rules (now (s .entry)) p) ⌝ }
-    ensures filled { λ _. ⌜ FilledFrom asWords (now (table .entry)) (now (table .exit)) (texts.rules (now (s .entry)) p) ⌝ }
+    ensures { λ r. ⌜ rulesInto (now (words .entry), now (bytes .entry)) (now (s .entry)) p ≡ seenRulesInto r (now (words .exit), now (bytes .exit)) ⌝ }
 {
     let mut slot: usize = 0;
     let mut at = p;
     let mut separator: u8 = 0;
     loop {
         let c = Cursor { at }.blanks(s);
-        let r = parted(s, c, fill_rule(s, c, separator, table, slot));
+        let r = parted(s, c, fill_rule(s, c, separator, words, bytes, slot));
         match r {
             Parted::Got(items, behind, d) => {
                 slot += items + 1;
                 let Next::Another(k) = behind else {
-                    return Counted::Got(slot);
+                    return Counted::Got(slot, d);
                 };
                 separator = k;
                 at = d.at;

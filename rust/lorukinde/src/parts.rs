@@ -25,8 +25,7 @@ pub struct Parts<'a> {
 /// Reads each part of a sheet, from the first to the last. A sheet has at least one; one of over 4,096 bytes is a single
 /// refused part. There is always room, so 10 is never among the refusals.
 pub fn parts(sheet: &[u8]) -> Parts<'_> {
-    // There are never more records than bytes: a head with its first item takes two bytes or more (`Mo`), a head alone three
-    // (`off`), and every further item two with its comma (`,2` of a week).
+    // There are never more records than bytes: the theorem `records-few` (crates/sheet/proofs/Bounds.antt).
     let room = sheet.len().min(SHEET_BYTES);
     Parts { sheet, begin: Some(0), table: vec![Record::EMPTY; room] }
 }

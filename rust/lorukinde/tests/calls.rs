@@ -60,7 +60,7 @@ fn tables_of_every_size() {
 
 #[test]
 fn few_and_many_records() {
-    // Up to 7 records of a short sheet, and up to 1,200 of one of over 1,024 bytes, are kept when they are counted; the others are read again.
+    // Up to 7 records are kept while they are counted; a sheet with more is read again.
     for items in [1, 5, 6, 7, 8, 340, 341, 342, 343, 1198, 1199, 1200, 1201, 1365] {
         let sheet = vec!["Mo"; items].join(",").into_bytes();
         let mut expected = vec![Record::from_words(words([6, 1, 1, 0, 31, 31])); items + 1];

@@ -9,7 +9,7 @@ use lib.ListN.{length}
 use Rattle.prints.specs.Lines.{line, lines}
 use Rattle.prints.proofs.Writing.{then}
 use Rattle.outputs.specs.Outputs.{numbersOf, outputOf, longest}
-use Rattle.outputs.specs.Slots.{slots}
+use Rattle.records.specs.Tables.{recordsIn}
 use Rattle.outputs.proofs.Tables.{few-records, output-lines, all-counted}
 use Rattle.outputs.proofs.output.Statement.{statement}
 use Rattle.outputs.proofs.output.Tie as tie
@@ -35,6 +35,6 @@ output-spec =
       most,
       all-counted (outputOf (now (a .sheet))) (now (a .out))
           (rw (output-lines (now (a .sheet)) _ refl (r .read-sheet .ensures)) at
-          (then (line (numbersOf (r .read-sheet .result))) (lines (slots (r .read-sheet .result .records) (r .read-sheet .last .1 .0))) 0 (now (a .out)) (omega (arith, s .good .1 .0 .0)) (w .put-answer .ensures .1) (p .put-records .ensures .1)))
+          (then (line (numbersOf (r .read-sheet .result))) (lines (recordsIn (r .read-sheet .result .records) (r .read-sheet .last .1 .0))) 0 (now (a .out)) (omega (arith, s .good .1 .0 .0)) (w .put-answer .ensures .1) (p .put-records .ensures .1)))
           most,
     )))  -- returns

@@ -7,13 +7,13 @@ use denote.Ref.{now}
 use lib.ListN.{length, take, drop, length-take}
 use Rattle.prints.specs.Lines.{line, lines}
 use Rattle.prints.proofs.Writing.{Left, all-left, less-left, none-left}
-use Rattle.outputs.specs.Slots.{slots}
+use Rattle.records.specs.Tables.{recordsIn}
 use Rattle.outputs.proofs.Laws.{lines-more, lines-end}
 use Rattle.outputs.proofs.put_records.Statement.{statement}
 use Rattle.outputs.proofs.put_records.Tie as tie
 
 abbrev Inv-loop : tie.InvT-loop
-Inv-loop out₀ table n next₀ k₀ out next k = (k ≤ n) × (next .at ≤ next₀ .at + 192 * k) × Left (lines (slots n table)) (next₀ .at) out₀ (next .at) out (lines (slots (n - k) (drop (k * 16) table)))
+Inv-loop out₀ table n next₀ k₀ out next k = (k ≤ n) × (next .at ≤ next₀ .at + 192 * k) × Left (lines (recordsIn n table)) (next₀ .at) out₀ (next .at) out (lines (recordsIn (n - k) (drop (k * 16) table)))
 
 abbrev μ-loop : tie.MeasureT-loop
 μ-loop out₀ table n next₀ k₀ out next k = n - k
@@ -43,7 +43,7 @@ put-records-spec =
     let e : (k * 16 + 16) - k * 16 ≡ 16 = omega arith in (
       search needs,
       omega (arith, l .loop .inv .1, rw e at (p .put-line .ensures .0), length-take 16 (drop (k * 16) t)),
-      less-left (line (take 16 (drop (k * 16) t))) (lines (slots (n - (k + 1)) (drop ((k + 1) * 16) t))) (search needs) (l .loop .inv .2) (lines-more t n k (search needs)) (rw e at (p .put-line .ensures .1)),
+      less-left (line (take 16 (drop (k * 16) t))) (lines (recordsIn (n - (k + 1)) (drop ((k + 1) * 16) t))) (search needs) (l .loop .inv .2) (lines-more t n k (search needs)) (rw e at (p .put-line .ensures .1)),
     ))  -- loop-again
     (λ c. search needs)  -- same-length
     (λ c. let l = c .before in

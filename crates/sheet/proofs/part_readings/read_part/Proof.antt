@@ -1,48 +1,20 @@
 -- `sheet::read_part` meets its contract.
-use Prim.Native.Nat.{_≤_}
 use borrow.Author.Needs.{needs}
-use native.Mathlib.Omega.{arith}
-use mathlib.Core.Bool.{true}
-use mathlib.Core.Path.{_≡_, sym, ap, _∙_}
+use mathlib.Core.List.{[]}
 use denote.Ref.{now}
 use lib.ListN.{length}
-use lib.Seq.{length-take-le}
-use Rattle.sheet.specs.Parts.{begins}
-use Rattle.rules.specs.Tables.{asWords}
-use Rattle.sheet.specs.Sheets.{textReading}
-use Rattle.sheet.specs.PartReadings.{partReading}
-use Rattle.sheet.proofs.PartLaws.{begins-fits, end-fits}
-use Rattle.sheet.proofs.Readings.{part-long, part-nowhere, part-text}
+use Rattle.sheet.specs.PartReadings.{partOf, partReading}
+use Rattle.sheet.proofs.Readings.{part-held, into-words}
 use Rattle.sheet.proofs.part_readings.read_part.Statement.{statement}
 use Rattle.sheet.proofs.part_readings.read_part.Tie as tie
 
--- a part begins here
-abbrev here : (c : tie.After-part-end) → let a = c .before .before .before .before .before .args in begins (now (a .sheet)) (a .place) ≡ true
-here c = sym (c .before .before .begins .ensures) ∙ c .before .if2 .taken
-
--- and ends in the sheet
-stays : (c : tie.After-part-end) → let a = c .before .before .before .before .before .args in c .part-end .result ≤ length (now (a .sheet))
-stays c = let a = c .before .before .before .before .before .args in
-    omega (arith, c .part-end .ensures, end-fits (now (a .sheet)) (a .place) (begins-fits (now (a .sheet)) (a .place) (here c)))
-
 pub read-part-spec : {M : Type 1} → statement M
-unfolding textReading partReading
+unfolding partReading
 read-part-spec =
     tie.close
     (tie.spec
-    (λ c κs. search needs)  -- part-refusal-requires
-    (λ c. let a = c .before .before .before .args in
-    ap (λ r. (r, now (a .table))) (c .part-refusal .ensures) ∙ part-long asWords (now (a .sheet)) (a .place) (length (now (a .table))) (now (a .table)) (c .before .if1 .taken))  -- returns
-    (λ c κs. search needs)  -- begins-requires
-    (λ c κs. search needs)  -- part-end-requires
-    (λ c. sym (length-take-le (c .before .part-end .result) (now (c .before .before .before .before .before .before .args .sheet)) (stays (c .before))))  -- slice-aggregate-read-text
-    (λ c κs. let e = c .before .before in let a = e .before .before .before .before .before .args in
-    omega (arith, length-take-le (e .part-end .result) (now (a .sheet)) (stays e), stays e))  -- read-text-requires
-    (λ c κs. search needs)  -- with-next-requires
-    (λ c κs. search needs)  -- part-refusal-requires-2
+    (λ c. search needs)  -- slice-aggregate-part-into
+    (λ c κs. search needs)  -- part-into-requires
     (λ c. search needs)  -- same-length
-    (λ c. let r = c .before .before in let e = r .before .before .before in let a = e .before .before .before .before .before .args in
-    rw (c .with-next .ensures, e .part-end .ensures)
-    (part-text asWords (now (a .sheet)) (a .place) (length (now (a .table))) (now (a .table)) (e .before .before .before .if1 .left) (here e) (rw (e .part-end .ensures) at (r .read-text .ensures))))  -- returns-2
-    (λ c. let a = c .before .before .before .before .before .args in
-    ap (λ r. (r, now (a .table))) (c .part-refusal2 .ensures) ∙ part-nowhere asWords (now (a .sheet)) (a .place) (length (now (a .table))) (now (a .table)) (c .before .before .before .if1 .left) (sym (c .before .before .begins .ensures) ∙ c .before .if2 .left)))  -- returns-3
+    (λ c. let r = c .before .before in let a = r .before .before .before .before .args in let n = (length (now (a .table))) in
+    into-words (now (a .table), []) (partOf (now (a .sheet)) (a .place) n) (part-held (now (a .sheet)) (a .place) n) (r .part-into .ensures)))  -- returns

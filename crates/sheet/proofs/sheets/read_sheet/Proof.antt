@@ -1,24 +1,20 @@
 -- `sheet::read_sheet` meets its contract.
 use borrow.Author.Needs.{needs}
-use native.Mathlib.Omega.{arith}
-use mathlib.Core.Path.{ap, _∙_}
+use mathlib.Core.List.{[]}
 use denote.Ref.{now}
 use lib.ListN.{length}
-use Rattle.rules.specs.Tables.{asWords}
-use Rattle.sheet.specs.Sheets.{textReading, sheetReading}
-use Rattle.sheet.proofs.Readings.{sheet-long, sheet-text}
+use Rattle.sheet.specs.Sheets.{sheetOf, sheetReading}
+use Rattle.sheet.proofs.Readings.{sheet-held, into-words}
 use Rattle.sheet.proofs.sheets.read_sheet.Statement.{statement}
 use Rattle.sheet.proofs.sheets.read_sheet.Tie as tie
 
 pub read-sheet-spec : {M : Type 1} → statement M
-unfolding textReading sheetReading
+unfolding sheetReading
 read-sheet-spec =
     tie.close
     (tie.spec
-    (λ c κs. search needs)  -- refusal-requires
-    (λ c. let a = c .before .before .before .args in
-    ap (λ r. (r, now (a .table))) (c .refusal .ensures) ∙ sheet-long asWords (now (a .sheet)) (length (now (a .table))) (now (a .table)) (c .before .if1 .taken))  -- returns
-    (λ c κs. omega arith)  -- read-text-requires
+    (λ c. search needs)  -- slice-aggregate-sheet-into
+    (λ c κs. search needs)  -- sheet-into-requires
     (λ c. search needs)  -- same-length
-    (λ c. let a = c .before .before .before .before .before .args in
-    c .before .read-text .ensures ∙ sheet-text asWords (now (a .sheet)) (length (now (a .table))) (now (a .table)) (c .before .before .before .if1 .left)))  -- returns-2
+    (λ c. let r = c .before .before in let a = r .before .before .before .before .args in let n = (length (now (a .table))) in
+    into-words (now (a .table), []) (sheetOf (now (a .sheet)) n) (sheet-held (now (a .sheet)) n) (r .sheet-into .ensures)))  -- returns

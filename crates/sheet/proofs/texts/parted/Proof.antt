@@ -5,7 +5,7 @@ use denote.Ref.{now}
 use lib.Dec.{eqb}
 use Rattle.names.specs.Texts.{blanks}
 use Rattle.names.proofs.Skips.{skip-sure}
-use Rattle.rules.specs.Musts.{missing}
+use Rattle.items.specs.Musts.{missing}
 use Rattle.rules.specs.Seen.{seenRule, seenNext}
 use Rattle.sheet.proofs.texts.parted.Statement.{statement}
 use Rattle.sheet.proofs.texts.parted.Tie as tie

@@ -1,0 +1,64 @@
+-- What an answer of the code says, in the definitions' terms.
+use Prim.Native.Nat.{ℕ}
+use mathlib.Core.List.{List, [], _∷_}
+use mathlib.Core.Bool.{Bool}
+use mathlib.Core.Path.{_≡_}
+use lib.Dec.{eqb}
+use Rattle.names.specs.Tests.{if_then_else_}
+use Rattle.names.specs.Read.{Read, got, none, refused, Reader, nothing}
+use Rattle.names.specs.Names.{word, weekday, month, event, easter, holiday, week}
+use Rattle.records.specs.declared.Item.{Item}
+use Rattle.times.specs.Spans.{eventItemBehind}
+use Rattle.days.specs.Weekdays.{weekdayItemBehind}
+use Rattle.days.specs.Holidays.{holidayItemBehind}
+use Rattle.dates.specs.Weeks.{weekItem}
+use Rattle.dates.specs.MonthDays.{monthDayBehind}
+use Rattle.dates.specs.declared.Year.the-variants.{Absent}
+use Rattle.items.specs.Musts.{must}
+use Rattle.items.specs.Kinds.{apart, itemIn}
+use Rattle.items.specs.Sets.{beginsWith}
+use Rattle.items.specs.declared.Kind.{Kind}
+use Rattle.items.specs.declared.Wish.{Wish}
+use Rattle.items.specs.declared.Wish.the-variants.{As, Not}
+use Rattle.items.specs.declared.Stands.{Stands}
+use Rattle.items.specs.declared.Stands.the-variants as stands
+
+-- what stands at the place i, where items of these kinds are wanted: such an item or its refusal, or else a name, or neither
+abbrev pub Standing : List Kind → List ℕ → ℕ → Stands → Type 0
+Standing ks s i (stands.Item a k c) = itemIn ks s i ≡ got (a, k) (c .at)
+Standing ks s i (stands.Refused n p) = itemIn ks s i ≡ refused n p
+Standing ks s i (stands.Name n v c) = (itemIn ks s i ≡ none) × (word s i ≡ got (n, v) (c .at))
+Standing ks s i stands.Nothing = (itemIn ks s i ≡ none) × (word s i ≡ none)
+
+-- an item of this kind
+abbrev pub withKind : Kind → Read Item → Read (Item × Kind)
+withKind k (got a j) = got (a, k) j
+withKind k none = none
+withKind k (refused n p) = refused n p
+
+-- an answer of those who look for no name: it says what was read, and names none
+abbrev pub Finds : Read (Item × Kind) → Stands → Type 0
+Finds m (stands.Item a k c) = m ≡ got (a, k) (c .at)
+Finds m (stands.Refused n p) = m ≡ refused n p
+Finds m (stands.Name n v c) = ⊥
+Finds m stands.Nothing = m ≡ none
+
+-- this kind where a test passes, or else another wish
+abbrev pub wishIf : Bool → Kind → Wish → Wish
+wishIf t k other = if t then As k else other
+
+-- of these kinds, the first that may begin with a name of this kind
+unfoldable pub wished : ℕ → List Kind → Wish
+wished n [] = Not
+wished n (k ∷ ks) = if beginsWith n k then As k else wished n ks
+
+-- the item that begins at p with a name of kind n, which is v of its kind, after that name
+unfoldable pub afterName : ℕ → ℕ → ℕ → Reader Item
+afterName p n v =
+    if eqb n weekday then weekdayItemBehind p v
+    else if eqb n month then monthDayBehind p Absent (n, v)
+    else if eqb n easter then monthDayBehind p Absent (n, v)
+    else if eqb n event then eventItemBehind p v
+    else if eqb n holiday then holidayItemBehind p v
+    else if eqb n week then must (apart weekItem)
+    else nothing

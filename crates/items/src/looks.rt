@@ -1,0 +1,216 @@
+// One look at a place: a name is looked up once, and the item goes by its kind; else by its numbers.
+ghost use mathlib.Core.Bool.{_||_};
+ghost use mathlib.Core.List.{[], _∷_};
+ghost use mathlib.Core.Path.{_≡_};
+ghost use Rattle.names.specs.Read.{got, none};
+ghost use Rattle.names.specs.Names.{word};
+ghost use Rattle.names.specs.Numbers.{year as yearNumber};
+ghost use Rattle.records.specs.Seen.{seenItem};
+ghost use Rattle.dates.specs.Weeks.{weekItem};
+ghost use Rattle.dates.specs.MonthDays.{monthDayItem};
+ghost use Rattle.items.specs.Kinds.{apart, itemIn};
+ghost use Rattle.items.specs.Sets.{hasKind, picked, yearly, numbered, kindsOf};
+ghost use Rattle.items.specs.Seen.{Standing, withKind, Finds, afterName};
+ghost use Rattle.items.specs.declared.Kind.the-variants.{Years, MonthDays, Times};
+use crate::Kind;
+use crate::Stands;
+use crate::Wish;
+use crate::kinds::MONTH_DAYS;
+use crate::kinds::TIMES;
+use crate::kinds::WEEK_NUMBERS;
+use crate::kinds::YEARS;
+use crate::kinds::has;
+use crate::kinds::wanted_as;
+use crate::musts::must;
+use dates::Year;
+use dates::month_day_item_behind;
+use dates::week_item;
+use dates::year_item_behind;
+use days::holiday_item_behind;
+use days::weekday_item_behind;
+use names::Cursor;
+use names::EASTER;
+use names::EVENT;
+use names::HOLIDAY;
+use names::MONTH;
+use names::Num;
+use names::Step;
+use names::WEEK;
+use names::WEEKDAY;
+use names::Word;
+use records::ItemRead;
+use times::event_item_behind;
+use times::time_item;
+
+// A blank and a week.
+fn week_apart(s: &[u8], c: Cursor) -> ItemRead
+    ensures { λ r. ⌜ apart weekItem (now (s .entry)) (c .at) ≡ seenItem r ⌝ }
+{
+    let before = c.blank(s);
+    let Step::Got(d) = before else {
+        return ItemRead::Missing;
+    };
+    week_item(s, d)
+}
+
+// What reading an item of this kind finds, as what stands there.
+fn found(m: ItemRead, kind: Kind) -> Stands
+    ensures { λ r. ⌜ Finds (withKind kind (seenItem m)) r ⌝ }
+{
+    match m {
+        ItemRead::Got(a, c) => Stands::Item(a, kind, c),
+        ItemRead::Missing => Stands::Nothing,
+        ItemRead::Refused(k, p) => Stands::Refused(k, p),
+    }
+}
+
+// The item at c that begins with a name of this kind and value, up to d.
+fn begun(s: &[u8], c: Cursor, name: u8, value: u8, d: Cursor) -> ItemRead
+    ensures { λ r. ⌜ afterName (c .at) name value (now (s .entry)) (d .at) ≡ seenItem r ⌝ }
+{
+    match name {
+        WEEKDAY => weekday_item_behind(s, c.at, d, value),
+        MONTH | EASTER => month_day_item_behind(s, c.at, d, Year::Absent, name, value),
+        EVENT => event_item_behind(s, c.at, d, value),
+        HOLIDAY => holiday_item_behind(s, c.at, d, value),
+        WEEK => must(s, d, week_apart(s, d)),
+        _ => ItemRead::Missing,
+    }
+}
+
+// What stands at c, where a name of this kind and value stands, up to d.
+fn named(s: &[u8], c: Cursor, set: u16, name: u8, value: u8, d: Cursor) -> Stands
+    requires { ⌜ word (now s) (c .at) ≡ got (name, value) (d .at) ⌝ }
+    ensures { λ r. ⌜ Standing (kindsOf set) (now (s .entry)) (c .at) r ⌝ }
+{
+    let wish = wanted_as(set, name);
+    let Wish::As(kind) = wish else {
+        return Stands::Name(name, value, d);
+    };
+    let item = begun(s, c, name, value, d);
+    match item {
+        ItemRead::Got(a, e) => Stands::Item(a, kind, e),
+        ItemRead::Missing => Stands::Name(name, value, d),
+        ItemRead::Refused(k, p) => Stands::Refused(k, p),
+    }
+}
+
+// A month day at c, where a year stands, up to d.
+fn dated(s: &[u8], c: Cursor, y: u16, d: Cursor) -> ItemRead
+    requires { ⌜ yearNumber (now s) (c .at) ≡ got y (d .at) ⌝ }
+    ensures { λ r. ⌜ monthDayItem (now (s .entry)) (c .at) ≡ seenItem r ⌝ }
+{
+    let after = d.blank(s);
+    let Step::Got(e) = after else {
+        return ItemRead::Missing;
+    };
+    let name = e.word(s);
+    let Word::Got(kind, value, f) = name else {
+        return ItemRead::Missing;
+    };
+    month_day_item_behind(s, c.at, f, Year::Given(y), kind, value)
+}
+
+// A month day at c, where one is wanted and a year stands, up to d.
+fn month_day(s: &[u8], c: Cursor, set: u16, y: u16, d: Cursor) -> Stands
+    requires { ⌜ yearNumber (now s) (c .at) ≡ got y (d .at) ⌝ }
+    ensures { λ r. ⌜ Finds (itemIn (picked set (MonthDays ∷ [])) (now (s .entry)) (c .at)) r ⌝ }
+{
+    if has(set, MONTH_DAYS) {
+        found(dated(s, c, y, d), Kind::MonthDays)
+    } else {
+        Stands::Nothing
+    }
+}
+
+// An item at c that begins with a year, up to d. A year before a blank and a month or `easter` belongs to the date.
+fn with_year(s: &[u8], c: Cursor, set: u16, y: u16, d: Cursor) -> Stands
+    requires { ⌜ yearNumber (now s) (c .at) ≡ got y (d .at) ⌝ }
+    ensures { λ r. ⌜ Finds (itemIn (picked set yearly) (now (s .entry)) (c .at)) r ⌝ }
+{
+    let date = month_day(s, c, set, y, d);
+    let Stands::Nothing = date else {
+        return date;
+    };
+    if has(set, YEARS) {
+        found(year_item_behind(s, c.at, d, y), Kind::Years)
+    } else {
+        Stands::Nothing
+    }
+}
+
+// Whether an item that begins with a year is wanted.
+fn wants_years(set: u16) -> bool
+    ensures { λ r. ⌜ r ≡ (hasKind set MonthDays || hasKind set Years) ⌝ }
+{
+    if has(set, MONTH_DAYS) {
+        true
+    } else {
+        has(set, YEARS)
+    }
+}
+
+// An item at c that begins with a year, where one is wanted.
+fn year_first(s: &[u8], c: Cursor, set: u16) -> Stands
+    requires { ⌜ word (now s) (c .at) ≡ none ⌝ }
+    ensures { λ r. ⌜ Finds (itemIn (picked set yearly) (now (s .entry)) (c .at)) r ⌝ }
+{
+    if wants_years(set) {
+        let number = c.year(s);
+        match number {
+            Num::Got(y, d) => with_year(s, c, set, y as u16, d),
+            Num::Missing => Stands::Nothing,
+        }
+    } else {
+        Stands::Nothing
+    }
+}
+
+// A time at c, where one is wanted.
+fn time(s: &[u8], c: Cursor, set: u16) -> Stands
+    ensures { λ r. ⌜ Finds (itemIn (picked set (Times ∷ [])) (now (s .entry)) (c .at)) r ⌝ }
+{
+    if has(set, TIMES) {
+        found(time_item(s, c), Kind::Times)
+    } else {
+        Stands::Nothing
+    }
+}
+
+// A time or a week's number at c.
+fn with_number(s: &[u8], c: Cursor, set: u16) -> Stands
+    ensures { λ r. ⌜ Finds (itemIn (picked set numbered) (now (s .entry)) (c .at)) r ⌝ }
+{
+    let span = time(s, c, set);
+    let Stands::Nothing = span else {
+        return span;
+    };
+    if has(set, WEEK_NUMBERS) {
+        found(week_item(s, c), Kind::WeekNumbers)
+    } else {
+        Stands::Nothing
+    }
+}
+
+// What stands at c, where no name does.
+fn unnamed(s: &[u8], c: Cursor, set: u16) -> Stands
+    requires { ⌜ word (now s) (c .at) ≡ none ⌝ }
+    ensures { λ r. ⌜ Standing (kindsOf set) (now (s .entry)) (c .at) r ⌝ }
+{
+    let some = year_first(s, c, set);
+    let Stands::Nothing = some else {
+        return some;
+    };
+    with_number(s, c, set)
+}
+
+// What stands at c, where items of these kinds are wanted.
+pub fn look_at(s: &[u8], c: Cursor, set: u16) -> Stands
+    ensures { λ r. ⌜ Standing (kindsOf set) (now (s .entry)) (c .at) r ⌝ }
+{
+    let name = c.word(s);
+    match name {
+        Word::Got(kind, value, d) => named(s, c, set, kind, value, d),
+        Word::Missing => unnamed(s, c, set),
+    }
+}

@@ -1,0 +1,229 @@
+-- A piece of a rule, by what stands where the rule goes on.
+use Prim.Native.Nat.{ℕ, _≤_}
+use mathlib.Core.Bool.{Bool, true, false}
+use mathlib.Core.List.{List, []}
+use mathlib.Core.Logic.{_⊎_, inl, inr}
+use mathlib.Core.Path.{_≡_, refl, sym, ap, _∙_}
+use native.Mathlib.Omega.{arith}
+use borrow.Author.Tests.{eq-eqb, ne-eqb}
+use lib.Dec.{eqb}
+use lib.ListN.{getD}
+use Rattle.names.specs.Read.{Read, got, none, refused, Reader, follow, branch, nothing, pure, map, _>>_, _or_}
+use Rattle.names.specs.Texts.{byte, blank, blanks, comma}
+use Rattle.names.specs.Names.{word, name}
+use Rattle.names.specs.Names as names
+use Rattle.names.proofs.Laws.{one-is}
+use Rattle.names.proofs.Search.{word-letter}
+use Rattle.names.proofs.Skips.{map-map}
+use Rattle.records.specs.declared.Item.{Item}
+use Rattle.items.specs.Musts.{missing, must}
+use Rattle.items.specs.Kinds.{apart, itemIn}
+use Rattle.items.specs.declared.Kind.{Kind}
+use Rattle.items.proofs.Sure.{Sure, or-sure, sure-then, sure-or, must-sure, missing-apart}
+use Rattle.items.proofs.Standing.{name-is, name-other, name-none}
+use Rattle.rules.specs.Comments.{noComment, comment, commentApart}
+use Rattle.rules.specs.Modifiers.{tailOf, withComment, modifier}
+use Rattle.rules.specs.Rows.{small, first, listed, following, isWide}
+use Rattle.rules.specs.Pieces.{itemFrom, goesOn, afterColon, colonSign, colon, more, plainEnd, end, piece}
+use Rattle.names.specs.declared.Cursor.{Cursor}
+use Rattle.items.specs.Sets.{kindsOf}
+use Rattle.rules.specs.Seen.{turned}
+use Rattle.rules.specs.declared.Turn.the-variants.{On}
+use Rattle.rules.specs.declared.Comment.{Comment}
+use Rattle.rules.specs.declared.Tail.{Tail}
+use Rattle.rules.specs.declared.Stage.{Stage}
+use Rattle.rules.specs.declared.Stage.the-variants.{Beginning, Always, Colon, After}
+
+-- after a modifier's word there is always an end
+with-comment-sure : (s : List ℕ) (v l : ℕ) → Sure (withComment v s l)
+unfolding withComment
+with-comment-sure s v l = go (commentApart s l)
+  where
+    go : (r : Read Comment) → Sure (follow s l (follow s l r pure (pure noComment)) (λ c. pure (tailOf v c)) nothing)
+    go (got c k) = tt
+    go none = tt
+    go (refused k p) = tt
+
+-- what a piece is
+abbrev Piece : Type 0
+Piece = (Item × Stage) ⊎ Tail
+
+abbrev items : Item × Stage → Reader Piece
+items a = pure (inl a)
+
+abbrev ends : Tail → Reader Piece
+ends t = pure (inr t)
+
+module _ (s : List ℕ) (i : ℕ) where
+  -- an end that is read in two ways, or a plain one
+  or-ends : (r : Read Tail) (n : Reader Tail) → follow s i (follow s i r pure n) ends nothing ≡ follow s i r ends (map inr n)
+  or-ends (got t j) n = refl
+  or-ends none n = refl
+  or-ends (refused k p) n = refl
+
+  -- ---- at the beginning
+
+  pub first-piece : piece Beginning s i ≡ branch (itemFrom first) items (branch modifier ends (λ s _. map inr (plainEnd Beginning) s i)) s i
+  unfolding piece more end
+  first-piece = go (itemFrom first s i)
+    where
+      go : (r : Read (Item × Stage)) → follow s i r items (map inr (modifier or plainEnd Beginning)) ≡ follow s i r items (branch modifier ends (λ s _. map inr (plainEnd Beginning) s i))
+      go (got a j) = refl
+      go none = last (modifier s i)
+        where
+          last : (r : Read Tail) → follow s i (follow s i r pure (plainEnd Beginning)) ends nothing ≡ follow s i r ends (λ s _. map inr (plainEnd Beginning) s i)
+          last (got t j) = refl
+          last none = refl
+          last (refused k p) = refl
+      go (refused k p) = refl
+
+  -- ---- after a colon
+
+  -- a blank, and then the item that has to stand there
+  pub colon-blank : {j : ℕ} → blank s i ≡ got tt j → map inl afterColon s i ≡ map {B = Piece} inl (must (itemFrom small)) s j
+  colon-blank {j} e = rw e (go (itemFrom small s j))
+    where
+      go : (r : Read (Item × Stage)) → follow s i (follow s i r pure missing) items nothing ≡ follow s j (follow s j r pure missing) items nothing
+      go (got a k) = refl
+      go none = rw (missing-apart (Item × Stage) s i e) (again (missing s j))
+        where
+          again : (r : Read (Item × Stage)) → follow s i r items nothing ≡ follow s j r items nothing
+          again (got a k) = refl
+          again none = refl
+          again (refused k p) = refl
+      go (refused k p) = refl
+
+  -- no blank: nothing of any kind
+  pub colon-bare : blank s i ≡ none → map inl afterColon s i ≡ map {B = Piece} inl (must (itemFrom [])) s i
+  unfolding itemIn
+  colon-bare e = rw e
+
+  -- ---- after selectors, where neither a comma nor a colon goes on
+
+  module _ (ks : List Kind) (x : Stage) where
+    abbrev afterBlank : Read Piece
+    afterBlank = branch (apart (itemFrom ks)) items (branch (apart modifier) ends (map inr (plainEnd x))) s i
+
+    pub blank-on : {j : ℕ} → blank s i ≡ got tt j → afterBlank ≡ branch (itemFrom ks) items (branch modifier ends (λ s _. map inr (plainEnd x) s i)) s j
+    blank-on {j} e = rw e (go (itemFrom ks s j))
+      where
+        end′ : (r : Read Tail) → follow s i r ends (map inr (plainEnd x)) ≡ follow s j r ends (λ s _. map inr (plainEnd x) s i)
+        end′ (got t k) = refl
+        end′ none = refl
+        end′ (refused k p) = refl
+
+        go : (r : Read (Item × Stage)) → follow s i r items (branch (apart modifier) ends (map inr (plainEnd x))) ≡ follow s j r items (branch modifier ends (λ s _. map inr (plainEnd x) s i))
+        go (got a k) = refl
+        go none = rw e (end′ (modifier s j))
+        go (refused k p) = refl
+
+    pub blank-off : blank s i ≡ none → afterBlank ≡ map inr (plainEnd x) s i
+    blank-off e = rw e (rw e)
+
+  -- `24/7`
+  pub always-piece : piece Always s i ≡ branch (apart (itemFrom [])) items (branch (apart modifier) ends (map inr (plainEnd Always))) s i
+  unfolding piece more end itemIn
+  always-piece = go (blank s i) refl
+    where
+      go : (r : Read (Unit {0})) → blank s i ≡ r → map inr (end Always) s i ≡ follow s i (follow s i r (λ _. itemFrom []) nothing) items (branch (apart modifier) ends (map inr (plainEnd Always)))
+      go (got tt j) e = or-ends (apart modifier s i) (plainEnd Always)
+      go none e = or-ends (apart modifier s i) (plainEnd Always)
+      go (refused k p) e = rw e
+
+  -- the comment of a wide part, and its colon
+  pub colon-piece : piece Colon s i ≡ map inl afterColon s i
+  unfolding piece more
+  colon-piece = sure-then s i i inl (afterColon s i) (map inr (end Colon)) (must-sure s i (apart (itemFrom small)))
+
+  -- ---- after an item
+
+  module _ (k : Kind) where
+    pub comma-piece : {j : ℕ} → comma s i ≡ got tt j → piece (After k) s i ≡ map inl (must (itemFrom (listed k))) s j
+    unfolding piece more goesOn
+    comma-piece {j} e =
+        let m = must (itemFrom (listed k)) in
+        rw e (ap (λ (r : Read (Item × Stage)). follow s i r items (map inr (end (After k)))) (sure-or s i (m s j) (colon k or apart (itemFrom (following k))) (must-sure s j (itemFrom (listed k)))) ∙ sure-then s i j inl (m s j) (map inr (end (After k))) (must-sure s j (itemFrom (listed k))))
+
+    pub wide-piece : {j : ℕ} → comma s i ≡ none → colonSign k s i ≡ got tt j → piece (After k) s i ≡ map inl afterColon s j
+    unfolding piece more goesOn colon
+    wide-piece {j} c e =
+        rw (c, e) (ap (λ (r : Read (Item × Stage)). follow s i r items (map inr (end (After k)))) (sure-or s i (afterColon s j) (apart (itemFrom (following k))) (must-sure s j (apart (itemFrom small)))) ∙ sure-then s i j inl (afterColon s j) (map inr (end (After k))) (must-sure s j (apart (itemFrom small))))
+
+    -- neither a comma nor a colon
+    after-end : map inr (end (After k)) s i ≡ branch (apart modifier) ends (map inr (plainEnd (After k))) s i
+    unfolding end
+    after-end = or-ends (apart modifier s i) (plainEnd (After k))
+
+    after-blank : (r : Read (Item × Stage)) → follow s i r items (map inr (end (After k))) ≡ follow s i r items (branch (apart modifier) ends (map inr (plainEnd (After k))))
+    after-blank (got a j) = refl
+    after-blank none = after-end
+    after-blank (refused n p) = refl
+
+    pub bare-piece : comma s i ≡ none → colonSign k s i ≡ none → piece (After k) s i ≡ branch (apart (itemFrom (following k))) items (branch (apart modifier) ends (map inr (plainEnd (After k)))) s i
+    unfolding piece more goesOn colon
+    bare-piece c e = rw (c, e) (after-blank (apart (itemFrom (following k)) s i))
+
+-- ---- from the look at the place j where the rule goes on
+
+module _ (s : List ℕ) (j : ℕ) (ks : List Kind) where
+  -- an item that has to stand there
+  abbrev has : Read Piece
+  has = map inl (must (itemFrom ks)) s j
+
+  pub has-item : {a : Item} {k : Kind} {l : ℕ} → itemIn ks s j ≡ got (a, k) l → has ≡ got (inl (a, After k)) l
+  has-item e = rw e
+
+  pub has-refused : {n p : ℕ} → itemIn ks s j ≡ refused n p → has ≡ refused n p
+  has-refused e = rw e
+
+  pub has-none : {l : ℕ} → itemIn ks s j ≡ none → blanks s j ≡ got tt l → has ≡ refused 3 l
+  unfolding missing
+  has-none e b = rw (e, b)
+
+  -- or may
+  module _ (x : Stage) (i : ℕ) where
+    abbrev may : Read Piece
+    may = branch (itemFrom ks) items (branch modifier ends (λ s _. map inr (plainEnd x) s i)) s j
+
+    pub may-item : {a : Item} {k : Kind} {l : ℕ} → itemIn ks s j ≡ got (a, k) l → may ≡ got (inl (a, After k)) l
+    may-item e = rw e
+
+    pub may-refused : {n p : ℕ} → itemIn ks s j ≡ refused n p → may ≡ refused n p
+    may-refused e = rw e
+
+    -- a modifier's name
+    pub may-modifier : {n v l : ℕ} → itemIn ks s j ≡ none → word s j ≡ got (n, v) l → n ≡ names.modifier → may ≡ map inr (withComment v) s l
+    unfolding modifier
+    may-modifier {n} {v} {l} e w m = rw (e, name-is s j names.modifier w m) (go (withComment v s l) (with-comment-sure s v l))
+      where
+        go : (r : Read Tail) → Sure r → follow s j (follow s j r pure (map (tailOf 0) comment)) ends (λ s _. map inr (plainEnd x) s i) ≡ follow s l r ends nothing
+        go (got t q) h = refl
+        go none h = absurd h
+        go (refused q p) h = refl
+
+    -- another name: no comment stands there
+    pub may-other : {n v l : ℕ} → itemIn ks s j ≡ none → word s j ≡ got (n, v) l → (n ≡ names.modifier → ⊥) → may ≡ map inr (plainEnd x) s i
+    unfolding modifier comment byte
+    may-other {n} {v} {l} e w m =
+        rw (e, name-other s j names.modifier w m, one-is (eqb 34) refl s j refl (ne-eqb 34 (getD s j 0) (λ q. omega (arith, word-letter s j w))))
+
+    -- no name
+    pub may-unnamed : itemIn ks s j ≡ none → word s j ≡ none → may ≡ branch comment (λ m. pure (inr (tailOf 0 m))) (λ s _. map inr (plainEnd x) s i) s j
+    unfolding modifier
+    may-unnamed e w = rw (e, name-none s j names.modifier w) (go (comment s j))
+      where
+        go : (r : Read Comment) → follow s j (follow s j r (λ c. pure (tailOf 0 c)) nothing) ends (λ s _. map inr (plainEnd x) s i) ≡ follow s j r (λ m. pure (inr (tailOf 0 m))) (λ s _. map inr (plainEnd x) s i)
+        go (got c q) = refl
+        go none = refl
+        go (refused q p) = refl
+
+-- ---- the same of a turn
+
+module _ (s : List ℕ) (x : Stage) (i : ℕ) (c : Cursor) (set : ℕ) where
+  pub turned-item : (m : Bool) {a : Item} {k : Kind} {l : ℕ} → itemIn (kindsOf set) s (c .at) ≡ got (a, k) l → turned s x i (On c set m) ≡ got (inl (a, After k)) l
+  turned-item true e = has-item s (c .at) (kindsOf set) e
+  turned-item false e = may-item s (c .at) (kindsOf set) x i e
+
+  pub turned-refused : (m : Bool) {n p : ℕ} → itemIn (kindsOf set) s (c .at) ≡ refused n p → turned s x i (On c set m) ≡ refused n p
+  turned-refused true e = has-refused s (c .at) (kindsOf set) e
+  turned-refused false e = may-refused s (c .at) (kindsOf set) x i e

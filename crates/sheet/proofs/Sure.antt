@@ -1,0 +1,45 @@
+-- The rules of a text are read or refused: there is never none of them.
+use Prim.Native.Nat.{ℕ}
+use mathlib.Core.List.{List}
+use mathlib.Core.Path.{_≡_}
+use lib.Dec.{eqb}
+use Rattle.names.specs.Read.{Read, got, none, refused, Reader, pure, map}
+use Rattle.names.specs.Texts.{blanks}
+use Rattle.names.proofs.Skips.{skip-sure}
+use Rattle.items.specs.Musts.{must}
+use Rattle.rules.specs.Rules.{Rule, rule, next}
+use Rattle.rules.specs.declared.Next.{Next}
+use Rattle.rules.specs.declared.Next.the-variants.{Another, Finished}
+use Rattle.items.proofs.Sure.{Sure, sure, then-sure, must-sure, chain-sure}
+use Rattle.rules.proofs.Chained.{rule-sure}
+use Rattle.sheet.specs.Texts.{movedTo, placed, afterRule, parted, moreRules, noMore, rules}
+use Rattle.sheet.proofs.Moves.{takes}
+
+-- blanks are
+blanks-sure : (s : List ℕ) (i : ℕ) → Sure (blanks s i)
+unfolding blanks
+blanks-sure s i = rw (skip-sure (eqb 32) s i .1) tt
+
+-- a rule of a text is
+more-sure : (separator : ℕ) (s : List ℕ) (i : ℕ) → Sure (moreRules (Another separator) s i)
+unfolding moreRules parted
+more-sure separator s i =
+    let after : (r : Rule) → Reader (Rule × Next) = λ r. afterRule r in
+    then-sure s i (λ _. placed (parted separator)) (blanks s i) (blanks-sure s i) (λ _ j.
+    placed-sure j (parted separator s j) (then-sure s j after (rule separator s j) (rule-sure separator s j) (λ r k.
+    then-sure s k (λ _. map (λ n. (r, n)) (must next)) (blanks s k) (blanks-sure s k) (λ _ l. then-sure s l (λ n. pure (r, n)) (must next s l) (must-sure s l next) (λ _ _. tt)))))
+  where
+    placed-sure : {A : Type 0} (j : ℕ) (r : Read A) → Sure r → Sure (movedTo j r)
+    placed-sure j (got a k) h = tt
+    placed-sure j none h = h
+    placed-sure j (refused k p) h = tt
+
+-- where there is no rule more, the text has ended
+ends : (s : List ℕ) (x : Next) (i : ℕ) → moreRules x s i ≡ none → Sure (noMore x s i)
+unfolding noMore
+ends s (Another separator) i e = absurd (sure (more-sure separator s i) e)
+ends s Finished i e = tt
+
+pub rules-sure : (s : List ℕ) (p : ℕ) → rules s p ≡ none → ⊥
+unfolding rules
+rules-sure s p = sure (chain-sure moreRules noMore s (λ x. takes x s) (ends s) (Another 0) p)

@@ -1,0 +1,194 @@
+-- A rule takes as many bytes of its text as it has records at least: each item, with the comma or the blank before it, takes two, and a rule without items takes one.
+use Prim.Native.Nat.{ℕ, zero, suc, _+_, _*_, _≤_}
+use mathlib.Core.Bool.{Bool, true, false, _&&_, and-eq-true-iff}
+use mathlib.Core.List.{List, [], _∷_}
+use mathlib.Core.Path.{_≡_, refl}
+use native.Mathlib.Omega.{arith}
+use lib.Dec.{eqb, leb}
+use lib.ListN.{length}
+use borrow.Author.Tests.{leb-true}
+use Rattle.names.specs.Tests.{within}
+use Rattle.names.specs.Read.{Read, got, none, refused, Reader, follow, nothing, pure, map, _>>=_}
+use Rattle.names.specs.Chain.{before, last, chainIn, chain}
+use Rattle.names.specs.Names.{Row, names, spelledSo, lower, letter, firstOf, word, name, weekday, holiday, event, week}
+use Rattle.names.proofs.Local.{Stop, keep, Local, past, past-one, loose, free, nothing-local, pure-local, here-local, only-local, branch-moved, branch-local, bind-local, then-local, map-local, or-local}
+use Rattle.names.proofs.Chains.{step-moves}
+use Rattle.names.proofs.Cut.{byte-local, blank-local, comma-local, hour-local, minute-local}
+use Rattle.names.proofs.NameCut.{plain, allOf-local, name-local}
+use Rattle.records.specs.declared.Item.{Item}
+use Rattle.records.proofs.Cut.{Alike, item-alike}
+use Rattle.times.specs.Times.{clock, movedEvent, rawTime}
+use Rattle.times.specs.Spans.{spanShape, timeItem}
+use Rattle.times.specs.Meanings.{spanMeaning}
+use Rattle.times.proofs.Cut.{moved-alike, spanBehind-alike, meaning-refuses, timeItem-alike}
+use Rattle.days.specs.Weekdays.{weekdayShape, weekdayMeaning, weekdayItem}
+use Rattle.days.specs.Holidays.{holidayShape, holidayMeaning, holidayItem}
+use Rattle.days.proofs.Cut.{weekdayBehind-alike, holidayBehind-alike, weekday-refuses, holiday-refuses, weekdayItem-alike, holidayItem-alike}
+use Rattle.dates.specs.Dates.{optionalYear}
+use Rattle.dates.specs.MonthDays.{monthDayBehind, monthDayItem}
+use Rattle.dates.proofs.Cut.{optionalYear-alike, monthDayBehind-alike, yearItem-alike, weekItem-alike, monthDayItem-alike}
+use Rattle.items.specs.Kinds.{weeks, itemOf, itemIn}
+use Rattle.items.specs.declared.Kind.{Kind}
+use Rattle.items.specs.declared.Kind.the-variants.{Years, MonthDays, Weeks, Weekdays, Holidays, Times}
+use Rattle.items.proofs.Cut.{must-local, apart-alike}
+use Rattle.rules.specs.Rows.{small, first, listed, following, isWide}
+use Rattle.rules.specs.Pieces.{goesOn, colonSign, colon, more, end}
+use Rattle.rules.specs.Comments.{noComment}
+use Rattle.rules.specs.Rules.{openingOf, opening, Rule, ruleOf, behind, rule}
+use Rattle.rules.specs.declared.Stage.{Stage}
+use Rattle.rules.specs.declared.Stage.the-variants.{Beginning, Always, Colon, After}
+use Rattle.rules.specs.declared.Tail.{Tail}
+use Rattle.rules.proofs.Cut.{openingMoves, itemFrom-alike, afterColon-alike, end-local, always-local, wideComment-local, rule-local}
+
+-- ---- an item takes two bytes
+
+-- each name has two letters, and they are plain
+long-rows : List Row → Bool
+long-rows [] = true
+long-rows (r ∷ rs) = leb 2 (length (r .0)) && (plain (letter (r .1 .0)) (r .0) && long-rows rs)
+
+names-long : long-rows names ≡ true
+unfolding long-rows plain names letter spelledSo lower within
+names-long = refl
+
+module _ {u : List ℕ} where
+  firstOf-two : (rs : List Row) → long-rows rs ≡ true → Alike u 2 (firstOf rs)
+  unfolding firstOf long-rows
+  firstOf-two [] c = nothing-local
+  firstOf-two (r ∷ rs) c =
+      let some = and-eq-true-iff (leb 2 (length (r .0))) (plain (letter (r .1 .0)) (r .0) && long-rows rs) .0 c in
+      let rest = and-eq-true-iff (plain (letter (r .1 .0)) (r .0)) (long-rows rs) .0 (some .1) in
+      branch-local {k = 2} {l = 0} (loose (allOf-local (letter (r .1 .0)) (r .0) (rest .0)) (leb-true 2 (length (r .0)) (some .0))) (λ _. pure-local (r .1)) (firstOf-two rs (rest .1))
+
+  word-two : Alike u 2 word
+  unfolding word
+  word-two = firstOf-two names names-long
+
+  name-two : (k : ℕ) → Alike u 2 (name k)
+  unfolding name
+  name-two k = then-local word-two (λ w. then-local (only-local (eqb (w .0) k)) (λ _. pure-local (w .1)))
+
+  weekday-two : Alike u 2 weekdayItem
+  unfolding weekdayItem weekdayShape
+  weekday-two = item-alike (then-local (name-two weekday) weekdayBehind-alike) weekdayMeaning weekday-refuses
+
+  holiday-two : Alike u 2 holidayItem
+  unfolding holidayItem holidayShape
+  holiday-two = item-alike (then-local (name-two holiday) holidayBehind-alike) holidayMeaning holiday-refuses
+
+  clock-two : Alike u 2 clock
+  unfolding clock
+  clock-two = bind-local hour-local (λ h. then-local (byte-local 58 refl refl) (λ _. then-local (free minute-local) (λ m. pure-local _)))
+
+  event-two : Alike u 2 movedEvent
+  unfolding movedEvent
+  event-two = bind-local (byte-local 40 refl refl) (λ _. then-local (name-local event) (λ e. then-local (free (moved-alike e)) (λ t. then-local (free (byte-local 41 refl refl)) (λ _. pure-local t))))
+
+  time-two : Alike u 2 timeItem
+  unfolding timeItem spanShape rawTime
+  time-two = item-alike (then-local (or-local (then-local clock-two (λ c. pure-local _)) (or-local (then-local (name-two event) (λ e. pure-local _)) event-two)) spanBehind-alike) spanMeaning meaning-refuses
+
+  month-day-two : Alike u 2 monthDayItem
+  unfolding monthDayItem
+  month-day-two =
+      let f : ℕ → Reader Item = λ p. optionalYear >>= λ y. word >>= λ w. monthDayBehind p y w in
+      loose (branch-moved {l = 2} f f here-local (λ p. loose (bind-local optionalYear-alike (λ y. then-local word-two (monthDayBehind-alike p y))) (omega arith)) nothing-local) (omega arith)
+
+  weeks-two : Alike u 2 weeks
+  unfolding weeks
+  weeks-two = bind-local {l = 1} (name-local week) (λ _. must-local (apart-alike weekItem-alike))
+
+  -- one of several kinds
+  cons-two : (k : Kind) (ks : List Kind) → Alike u 2 (itemOf k) → Alike u 2 (itemIn ks) → Alike u 2 (itemIn (k ∷ ks))
+  unfolding itemIn
+  cons-two k ks M N = branch-local {k = 2} {l = 0} M (λ a. pure-local (a, k)) N
+
+  first-two : Alike u 2 (itemIn first)
+  unfolding itemIn itemOf
+  first-two =
+      cons-two MonthDays (Years ∷ Weeks ∷ small) month-day-two (cons-two Years (Weeks ∷ small) (loose yearItem-alike (omega arith)) (cons-two Weeks small weeks-two
+      (cons-two Weekdays (Holidays ∷ Times ∷ []) weekday-two (cons-two Holidays (Times ∷ []) holiday-two (cons-two Times [] time-two nothing-local)))))
+
+  -- ---- and so does each piece of a rule, with what stands before it
+
+  more-two : (x : Stage) → Local Stop (step-moves keep) u false false 2 (more x) (more x)
+  unfolding more goesOn colon colonSign
+  more-two Beginning = map-local (λ a. (a .0, After (a .1))) (λ a. (a .0, After (a .1))) (λ a. refl) first-two
+  more-two Always = nothing-local
+  more-two Colon = must-local (bind-local blank-local (λ _. itemFrom-alike small))
+  more-two (After k) =
+      or-local (bind-local comma-local (λ _. must-local (itemFrom-alike (listed k))))
+      (or-local (bind-local {k = 1} {l = 1} (loose (bind-local {k = 0} (only-local (isWide k)) (λ _. byte-local 58 refl refl)) (omega arith)) (λ _. afterColon-alike)) (bind-local blank-local (λ _. itemFrom-alike (following k))))
+
+-- an opening takes any
+opening-any : Local Stop openingMoves [] false false 0 opening opening
+unfolding opening
+opening-any = or-local (free always-local) (or-local (free wideComment-local) (pure-local (openingOf Beginning noComment)))
+
+-- ---- a value and the place after it
+
+-- where a reading found a value, it and the place after it are so
+abbrev pub Upto : {A : Type 0} → (A → ℕ → Type 0) → Read A → Type 0
+Upto P (got a j) = P a j
+Upto P none = Unit {0}
+Upto P (refused k p) = Unit {0}
+
+-- of one reader after another, the second's are
+pub upto-then : {A B : Type 0} (P : B → ℕ → Type 0) (s : List ℕ) (i : ℕ) (f : A → Reader B) (r : Read A) → ((a : A) (j : ℕ) → r ≡ got a j → Upto P (f a s j)) → Upto P (follow s i r f nothing)
+upto-then P s i f (got a j) h = h a j refl
+upto-then P s i f none h = tt
+upto-then P s i f (refused k p) h = tt
+
+-- a value changed
+pub upto-map : {A B : Type 0} (P : B → ℕ → Type 0) (s : List ℕ) (i : ℕ) (f : A → B) (r : Read A) → Upto (λ a j. P (f a) j) r → Upto P (follow s i r (λ a. pure (f a)) nothing)
+upto-map P s i f (got a j) h = h
+upto-map P s i f none h = tt
+upto-map P s i f (refused k p) h = tt
+
+-- less is said of them
+pub upto-less : {A : Type 0} (P Q : A → ℕ → Type 0) → ((a : A) (j : ℕ) → P a j → Q a j) → (r : Read A) → Upto P r → Upto Q r
+upto-less P Q f (got a j) h = f a j h
+upto-less P Q f none h = tt
+upto-less P Q f (refused k p) h = tt
+
+-- ---- a rule takes its records' bytes
+
+module _ (s : List ℕ) where
+  -- items, two bytes each
+  abbrev Pieces : ℕ → List Item × Tail → ℕ → Type 0
+  Pieces i r j = i + length (r .0) * 2 ≤ j
+
+  pieces-in : (n : ℕ) (x : Stage) (i : ℕ) → Upto (Pieces i) (chainIn n more end x s i)
+  unfolding chainIn
+  pieces-in zero x i = tt
+  pieces-in (suc n) x i = go (λ y j. pieces-in n y j) (more x s i) refl
+    where
+      go : ((y : Stage) (j : ℕ) → Upto (Pieces j) (chainIn n more end y s j)) → (r : Read (Item × Stage)) → more x s i ≡ r →
+          Upto (Pieces i) (follow s i r (λ c. map (before (c .0)) (chainIn n more end (c .1))) (map last (end x)))
+      go later (got c j) e =
+          let p = past (more-two {u = []} x) e in
+          upto-map (Pieces i) s j (before (c .0)) (chainIn n more end (c .1) s j)
+          (upto-less (Pieces j) (λ r k. Pieces i (before (c .0) r) k) (λ r k h. omega (arith, h, p .moves)) (chainIn n more end (c .1) s j) (later (c .1) j))
+      go later none e = upto-then (Pieces i) s i _ (end x s i) (λ b j f. omega (arith, past (end-local x) f .moves))
+      go later (refused k p) e = tt
+
+  -- a rule's head says how many items it has
+  abbrev Items : ℕ → Rule → ℕ → Type 0
+  Items i r j = (r .0 .items ≡ length (r .1)) × (i + length (r .1) * 2 ≤ j)
+
+  rule-items : (separator i : ℕ) → Upto (Items i) (rule separator s i)
+  unfolding rule behind chain
+  rule-items separator i =
+      upto-then (Items i) s i (behind separator) (opening s i) (λ o j e.
+      let all = chainIn (suc (length s)) more end (o .stage) s j in
+      upto-map (Items i) s j (ruleOf separator (o .comment)) all
+      (upto-less (Pieces j) (λ r k. Items i (ruleOf separator (o .comment) r) k) (λ r k h. (refl, omega (arith, h, past opening-any e .moves))) all (pieces-in (suc (length s)) (o .stage) j)))
+
+  -- these and the head take a byte each at least
+  pub rule-takes : (separator i : ℕ) → Upto (λ r j. (r .0 .items ≡ length (r .1)) × (i + suc (length (r .1)) ≤ j)) (rule separator s i)
+  rule-takes separator i = go (rule separator s i) refl (rule-items separator i)
+    where
+      go : (r : Read Rule) → rule separator s i ≡ r → Upto (Items i) r → Upto (λ r j. (r .0 .items ≡ length (r .1)) × (i + suc (length (r .1)) ≤ j)) r
+      go (got r j) e h = (h .0, omega (arith, h .1, past-one (rule-local separator) e))
+      go none e h = tt
+      go (refused k p) e h = tt

@@ -1,0 +1,22 @@
+-- What is read into a table of words and one of bytes: each of them has the records whose slots it has.
+use Prim.Native.Nat.{ℕ}
+use mathlib.Core.List.{List}
+use lib.IntN.{ℤ}
+use lib.ListN.{length}
+use Rattle.names.specs.Read.{Reader, map}
+use Rattle.records.specs.Tables.{Tables, allKept}
+use Rattle.rules.specs.Rules.{rule}
+use Rattle.rules.specs.declared.Head.{Head}
+use Rattle.sheet.specs.Texts.{rules, ruleRecords, records}
+
+-- a rule's head, and the tables with its records from slot k on
+abbrev pub ruleInto : Tables → ℕ → ℕ → Reader (Head × Tables)
+ruleInto t k separator = map (λ r. (r .0, allKept t k (ruleRecords r))) (rule separator)
+
+-- how many records the rules of a text have, and the tables with them
+abbrev pub rulesInto : Tables → Reader (ℕ × Tables)
+rulesInto t = map (λ l. (length (records (l .0)), allKept t 0 (records (l .0)))) rules
+
+-- what a reading answers, and the tables with its records
+abbrev pub into : {A : Type 0} → Tables → A × List (List ℤ) → A × Tables
+into t r = (r .0, allKept t 0 (r .1))
