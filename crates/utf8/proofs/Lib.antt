@@ -1,0 +1,10 @@
+pub mod Laws
+pub mod Rows
+pub mod Made
+pub mod Cut
+pub mod Repeats
+pub mod Firsts
+pub mod CodePoints
+pub mod Inner
+pub mod Between
+pub mod Examples
