@@ -3,6 +3,7 @@ use Prim.Native.Nat.{ℕ, suc}
 use mathlib.Core.Bool.{Bool, true, false, _&&_, not}
 use lib.Dec.{leb, ltb, eqb}
 use Rattle.names.specs.Tests.{if_then_else_, within}
+use Rattle.names.specs.Refusals.{easterDay, range}
 use Rattle.calendar.specs.Calendar.{isDay}
 use Rattle.records.specs.Items.{signed}
 use Rattle.records.specs.declared.Day.{Day}
@@ -111,7 +112,7 @@ dates d o e p = Is (Dates (record { start = d; before = o; end = e; behind = p }
 abbrev pub bare : Date → DateOffset → ℕ → DateOffset → Day → Meant
 bare s o e p (Fixed m d) = dates s o (bareEnd (yearMonth s.year m) d e) p
 bare s o e p (Weekday m w n) = dates s o (dateOf s.year (Fixed m e)) p
-bare s o e p Easter = Refused 9
+bare s o e p Easter = Refused easterDay
 
 -- from a start to each kind of end: no end is the start with its offset
 abbrev pub ended : Date → DateOffset → RawEnd → Meant
@@ -122,8 +123,8 @@ ended s o (Bare e p) = bare s o e (offsetOf p) s.day
 
 -- the meaning of a date item
 unfoldable pub dateMeaning : RawDates → Meant
-dateMeaning r = if not (goodDates r) then Refused 4 else ended (dated r.date) (offsetOf r.offset) r.end
+dateMeaning r = if not (goodDates r) then Refused range else ended (dated r.date) (offsetOf r.offset) r.end
 
 -- the meaning of months, which go round: only the year is judged
 unfoldable pub monthMeaning : RawMonths → Meant
-monthMeaning r = if not (goodYears r.year) then Refused 4 else Is (Months (record { year = yearOf r.year; first = r.first; last = r.last }))
+monthMeaning r = if not (goodYears r.year) then Refused range else Is (Months (record { year = yearOf r.year; first = r.first; last = r.last }))

@@ -5,6 +5,7 @@ use lib.Dec.{ltb}
 use Rattle.names.specs.Tests.{if_then_else_}
 use Rattle.names.specs.Read.{Reader, pure, _>>=_, _or_}
 use Rattle.names.specs.Numbers.{short}
+use Rattle.names.specs.Refusals.{range, weekStep, weeksInverted}
 use Rattle.records.specs.Items.{item}
 use Rattle.records.specs.declared.Item.{Item}
 use Rattle.records.specs.declared.Item.the-variants.{Weeks}
@@ -22,9 +23,9 @@ weekShape = do
 -- the meaning: weeks are 1 to 53; a step above 255 is refused, then first above last; a step above last minus first becomes 1
 unfoldable pub weekMeaning : RawRange → Meant
 weekMeaning r =
-    if not (goodRange 1 53 r) then Refused 4
-    else if ltb 255 r.step then Refused 5
-    else if ltb r.last r.first then Refused 7
+    if not (goodRange 1 53 r) then Refused range
+    else if ltb 255 r.step then Refused weekStep
+    else if ltb r.last r.first then Refused weeksInverted
     else Is (Weeks (record { first = r.first; last = r.last; step = stepOf r.first r.last r.step }))
 
 -- an item of a week list

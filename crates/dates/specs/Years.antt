@@ -6,6 +6,7 @@ use Rattle.names.specs.Tests.{if_then_else_, within}
 use Rattle.names.specs.Read.{Reader, pure, _>>=_, _>>_, _or_}
 use Rattle.names.specs.Texts.{sign}
 use Rattle.names.specs.Numbers.{year}
+use Rattle.names.specs.Refusals.{range, yearsInverted}
 use Rattle.records.specs.Items.{item, meant}
 use Rattle.records.specs.declared.Item.{Item}
 use Rattle.records.specs.declared.Item.the-variants.{Years}
@@ -31,8 +32,8 @@ goodYear = within 1900 9999
 -- the meaning: years are 1900 to 9999; first above last is refused, a step above last minus first becomes 1
 unfoldable pub yearMeaning : RawRange → Meant
 yearMeaning r =
-    if not (goodRange 1900 9999 r) then Refused 4
-    else if ltb r.last r.first then Refused 6
+    if not (goodRange 1900 9999 r) then Refused range
+    else if ltb r.last r.first then Refused yearsInverted
     else Is (Years (record { first = r.first; last = r.last; step = stepOf r.first r.last r.step }))
 
 -- an item of a year list

@@ -53,14 +53,14 @@ fn end_shape(s: &[u8], c: Cursor) -> EndThen
         end: RawEnd::Nothing,
         next: c,
     };
-    let plus = c.sign(s, 43);
+    let plus = c.sign(s, b'+');
     if let Step::Got(d) = plus {
         return EndThen {
             end: RawEnd::Plus,
             next: d,
         };
     }
-    let minus = c.sign(s, 45);
+    let minus = c.sign(s, b'-');
     let Step::Got(e) = minus else {
         return nothing;
     };

@@ -44,7 +44,7 @@ pub fn optional_year(s: &[u8], c: Cursor) -> YearThen
 fn back_nth(s: &[u8], c: Cursor) -> NthRead
     ensures { λ r. ⌜ dates.backNth (now (s .entry)) (c .at) ≡ seenNth r ⌝ }
 {
-    let minus = c.sign(s, 45);
+    let minus = c.sign(s, b'-');
     let Step::Got(d) = minus else {
         return NthRead::Missing;
     };
@@ -97,7 +97,7 @@ fn weekday_of(s: &[u8], c: Cursor, month: u8) -> DayRead
     let Num::Got(w, d) = name else {
         return DayRead::Missing;
     };
-    let left = d.sign(s, 91);
+    let left = d.sign(s, b'[');
     let Step::Got(e) = left else {
         return DayRead::Missing;
     };
@@ -105,7 +105,7 @@ fn weekday_of(s: &[u8], c: Cursor, month: u8) -> DayRead
     let NthRead::Got(n, f) = number else {
         return DayRead::Missing;
     };
-    let right = f.sign(s, 93);
+    let right = f.sign(s, b']');
     let Step::Got(g) = right else {
         return DayRead::Missing;
     };

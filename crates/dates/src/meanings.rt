@@ -13,6 +13,8 @@ use crate::YearMonth;
 use crate::bare::bare_end;
 use crate::bare::last_day;
 use days::RawOffset;
+use names::EASTER_DAY;
+use names::RANGE;
 use names::within;
 use records::Date;
 use records::DateOffset;
@@ -162,7 +164,7 @@ fn bare(start: Date, before: DateOffset, e: u8, behind: DateOffset) -> Meant
             };
             dates_of(start, before, same, behind)
         }
-        Day::Easter => Meant::Refused(9),
+        Day::Easter => Meant::Refused(EASTER_DAY),
     }
 }
 
@@ -206,7 +208,7 @@ pub fn date_meaning(r: RawDates) -> Meant
         let before = offset_of(o);
         ended(start, before, e)
     } else {
-        Meant::Refused(4)
+        Meant::Refused(RANGE)
     }
 }
 
@@ -223,6 +225,6 @@ pub fn month_meaning(r: RawMonths) -> Meant
             last: r.last,
         }))
     } else {
-        Meant::Refused(4)
+        Meant::Refused(RANGE)
     }
 }

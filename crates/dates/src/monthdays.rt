@@ -35,7 +35,7 @@ fn month_behind(s: &[u8], c: Cursor, first: u8) -> MonthThen
         last: first,
         next: c,
     };
-    let minus = c.sign(s, 45);
+    let minus = c.sign(s, b'-');
     let Step::Got(d) = minus else {
         return alone;
     };

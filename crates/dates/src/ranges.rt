@@ -15,7 +15,7 @@ pub fn stepped(s: &[u8], c: Cursor) -> StepThen
     ensures { λ r. ⌜ ranges.stepped (now (s .entry)) (c .at) ≡ thenStep r ⌝ }
 {
     let one = StepThen { step: 1, next: c };
-    let slash = c.sign(s, 47);
+    let slash = c.sign(s, b'/');
     let Step::Got(d) = slash else {
         return one;
     };

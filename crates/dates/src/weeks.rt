@@ -12,7 +12,10 @@ use crate::ranges::step_of;
 use crate::ranges::stepped;
 use names::Cursor;
 use names::Num;
+use names::RANGE;
 use names::Step;
+use names::WEEK_STEP;
+use names::WEEKS_INVERTED;
 use records::Item;
 use records::ItemRead;
 use records::Meant;
@@ -23,7 +26,7 @@ use records::judged;
 fn until_week(s: &[u8], c: Cursor, first: u16) -> RangeRead
     ensures { λ r. ⌜ ranges.untilLast short first (now (s .entry)) (c .at) ≡ seenRange r ⌝ }
 {
-    let minus = c.sign(s, 45);
+    let minus = c.sign(s, b'-');
     let Step::Got(d) = minus else {
         return RangeRead::Missing;
     };
@@ -72,10 +75,10 @@ fn week_meaning(r: RawRange) -> Meant
 {
     if good_range(1, 53, r) {
         if 255 < r.step {
-            return Meant::Refused(5);
+            return Meant::Refused(WEEK_STEP);
         }
         if r.last < r.first {
-            return Meant::Refused(7);
+            return Meant::Refused(WEEKS_INVERTED);
         }
         let step = step_of(r.first, r.last, r.step as u16);
         Meant::Is(Item::Weeks(WeekRange {
@@ -84,7 +87,7 @@ fn week_meaning(r: RawRange) -> Meant
             step,
         }))
     } else {
-        Meant::Refused(4)
+        Meant::Refused(RANGE)
     }
 }
 

@@ -13,7 +13,9 @@ use crate::ranges::step_of;
 use crate::ranges::stepped;
 use names::Cursor;
 use names::Num;
+use names::RANGE;
 use names::Step;
+use names::YEARS_INVERTED;
 use records::Item;
 use records::ItemRead;
 use records::Meant;
@@ -24,7 +26,7 @@ use records::judged;
 fn until_year(s: &[u8], c: Cursor, first: u16) -> RangeRead
     ensures { λ r. ⌜ ranges.untilLast year first (now (s .entry)) (c .at) ≡ seenRange r ⌝ }
 {
-    let minus = c.sign(s, 45);
+    let minus = c.sign(s, b'-');
     let Step::Got(d) = minus else {
         return RangeRead::Missing;
     };
@@ -48,7 +50,7 @@ fn until_year(s: &[u8], c: Cursor, first: u16) -> RangeRead
 fn year_behind(s: &[u8], c: Cursor, first: u16) -> RangeThen
     ensures { λ r. ⌜ years.yearBehind first (now (s .entry)) (c .at) ≡ thenRange r ⌝ }
 {
-    let plus = c.sign(s, 43);
+    let plus = c.sign(s, b'+');
     if let Step::Got(d) = plus {
         return RangeThen {
             range: RawRange {
@@ -79,7 +81,7 @@ fn year_meaning(r: RawRange) -> Meant
 {
     if good_range(1900, 9999, r) {
         if r.last < r.first {
-            return Meant::Refused(6);
+            return Meant::Refused(YEARS_INVERTED);
         }
         let step = step_of(r.first, r.last, r.step as u16);
         Meant::Is(Item::Years(YearRange {
@@ -88,7 +90,7 @@ fn year_meaning(r: RawRange) -> Meant
             step,
         }))
     } else {
-        Meant::Refused(4)
+        Meant::Refused(RANGE)
     }
 }
 

@@ -4,6 +4,7 @@ use mathlib.Core.Bool.{not}
 use Rattle.names.specs.Tests.{if_then_else_}
 use Rattle.names.specs.Read.{Reader, pure, _>>=_}
 use Rattle.names.specs.Names.{name, holiday}
+use Rattle.names.specs.Refusals.{range}
 use Rattle.records.specs.Items.{item, meant}
 use Rattle.records.specs.declared.Item.{Item}
 use Rattle.records.specs.declared.Item.the-variants.{Holidays}
@@ -26,7 +27,7 @@ holidayShape = do
 
 -- the meaning
 unfoldable pub holidayMeaning : RawHoliday → Meant
-holidayMeaning r = if not (goodDays r.days) then Refused 4 else Is (Holidays (record { kind = r.kind; days = daysOf r.days }))
+holidayMeaning r = if not (goodDays r.days) then Refused range else Is (Holidays (record { kind = r.kind; days = daysOf r.days }))
 
 -- a holiday item
 unfoldable pub holidayItem : Reader Item

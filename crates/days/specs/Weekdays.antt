@@ -6,6 +6,7 @@ use Rattle.names.specs.Tests.{if_then_else_}
 use Rattle.names.specs.Read.{Reader, pure, _>>=_, _>>_, _or_}
 use Rattle.names.specs.Texts.{sign}
 use Rattle.names.specs.Names.{name, weekday}
+use Rattle.names.specs.Refusals.{range}
 use Rattle.records.specs.Items.{item, meant}
 use Rattle.records.specs.declared.Signed.{Signed}
 use Rattle.records.specs.declared.Item.{Item}
@@ -63,7 +64,7 @@ flagged first last days starts ends = if eqb starts 0 && eqb ends 0 then weekday
 -- the meaning
 unfoldable pub weekdayMeaning : RawWeekdays → Meant
 weekdayMeaning r =
-    if not (r.marks .good && goodDays r.days) then Refused 4
+    if not (r.marks .good && goodDays r.days) then Refused range
     else flagged r.first r.last (daysOf r.days) (bits (r.marks .starts)) (bits (r.marks .ends))
 
 -- a weekday item

@@ -16,7 +16,7 @@ use names::within;
 fn back_entry(s: &[u8], c: Cursor) -> EntryRead
     ensures { λ r. ⌜ entries.backEntry (now (s .entry)) (c .at) ≡ seenEntry r ⌝ }
 {
-    let minus = c.sign(s, 45);
+    let minus = c.sign(s, b'-');
     let Step::Got(d) = minus else {
         return EntryRead::Missing;
     };
@@ -52,7 +52,7 @@ fn front_entry(s: &[u8], c: Cursor) -> EntryRead
         },
         d,
     );
-    let minus = d.sign(s, 45);
+    let minus = d.sign(s, b'-');
     let Step::Got(e) = minus else {
         return alone;
     };
@@ -85,7 +85,7 @@ fn entry(s: &[u8], c: Cursor) -> EntryRead
 fn next_entry(s: &[u8], c: Cursor) -> EntryRead
     ensures { λ r. ⌜ entries.nextEntry (now (s .entry)) (c .at) ≡ seenEntry r ⌝ }
 {
-    let comma = c.sign(s, 44);
+    let comma = c.sign(s, b',');
     let Step::Got(d) = comma else {
         return EntryRead::Missing;
     };

@@ -7,6 +7,7 @@ use crate::offsets::any_days;
 use names::Cursor;
 use names::HOLIDAY;
 use names::Num;
+use names::RANGE;
 use records::Holiday;
 use records::Item;
 use records::ItemRead;
@@ -26,7 +27,7 @@ fn holiday_meaning(r: RawHoliday) -> Meant
         };
         Meant::Is(Item::Holidays(Holiday { kind: r.kind, days }))
     } else {
-        Meant::Refused(4)
+        Meant::Refused(RANGE)
     }
 }
 

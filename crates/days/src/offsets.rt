@@ -20,11 +20,11 @@ use records::Signed;
 fn plus_or_minus(s: &[u8], c: Cursor) -> SignRead
     ensures { λ r. ⌜ offsets.plusOrMinus (now (s .entry)) (c .at) ≡ seenSign r ⌝ }
 {
-    let plus = c.sign(s, 43);
+    let plus = c.sign(s, b'+');
     if let Step::Got(d) = plus {
         return SignRead::Got(false, d);
     }
-    let minus = c.sign(s, 45);
+    let minus = c.sign(s, b'-');
     let Step::Got(e) = minus else {
         return SignRead::Missing;
     };

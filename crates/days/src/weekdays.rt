@@ -14,6 +14,7 @@ use crate::entries::no_marks;
 use crate::offsets::any_days;
 use names::Cursor;
 use names::Num;
+use names::RANGE;
 use names::Step;
 use names::WEEKDAY;
 use records::Item;
@@ -40,7 +41,7 @@ fn plain(first: u8, last: u8) -> RawWeekdays
 fn until_weekday(s: &[u8], c: Cursor, first: u8) -> WeekdaysRead
     ensures { λ r. ⌜ weekdays.untilWeekday first (now (s .entry)) (c .at) ≡ seenWeekdays r ⌝ }
 {
-    let minus = c.sign(s, 45);
+    let minus = c.sign(s, b'-');
     let Step::Got(d) = minus else {
         return WeekdaysRead::Missing;
     };
@@ -55,7 +56,7 @@ fn until_weekday(s: &[u8], c: Cursor, first: u8) -> WeekdaysRead
 fn with_entries(s: &[u8], c: Cursor, first: u8) -> WeekdaysRead
     ensures { λ r. ⌜ weekdays.withEntries first (now (s .entry)) (c .at) ≡ seenWeekdays r ⌝ }
 {
-    let left = c.sign(s, 91);
+    let left = c.sign(s, b'[');
     let Step::Got(d) = left else {
         return WeekdaysRead::Missing;
     };
@@ -63,7 +64,7 @@ fn with_entries(s: &[u8], c: Cursor, first: u8) -> WeekdaysRead
     let MarksRead::Got(marks, e) = inner else {
         return WeekdaysRead::Missing;
     };
-    let right = e.sign(s, 93);
+    let right = e.sign(s, b']');
     let Step::Got(f) = right else {
         return WeekdaysRead::Missing;
     };
@@ -148,10 +149,10 @@ fn weekday_meaning(r: RawWeekdays) -> Meant
             };
             flagged(r.first, r.last, days, bits(starts), bits(ends))
         } else {
-            Meant::Refused(4)
+            Meant::Refused(RANGE)
         }
     } else {
-        Meant::Refused(4)
+        Meant::Refused(RANGE)
     }
 }
 

@@ -65,10 +65,22 @@ pub fn wanted_as(set: u16, name: u8) -> Wish
     ensures { λ r. ⌜ r ≡ wished name (sets.kindsOf set) ⌝ }
 {
     match name {
-        WEEKDAY => either(set, WEEKDAYS, Kind::Weekdays, LAST_WEEKDAYS, Kind::LastWeekdays),
+        WEEKDAY => either(
+            set,
+            WEEKDAYS,
+            Kind::Weekdays,
+            LAST_WEEKDAYS,
+            Kind::LastWeekdays,
+        ),
         MONTH | EASTER => wish(set, MONTH_DAYS, Kind::MonthDays),
         EVENT => wish(set, TIMES, Kind::Times),
-        HOLIDAY => either(set, HOLIDAYS, Kind::Holidays, LAST_HOLIDAYS, Kind::LastHolidays),
+        HOLIDAY => either(
+            set,
+            HOLIDAYS,
+            Kind::Holidays,
+            LAST_HOLIDAYS,
+            Kind::LastHolidays,
+        ),
         WEEK => wish(set, WEEKS, Kind::Weeks),
         _ => Wish::Not,
     }

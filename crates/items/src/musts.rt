@@ -4,6 +4,7 @@ ghost use Rattle.names.specs.Read.{follow, pure};
 ghost use Rattle.records.specs.Seen.{seenItem};
 ghost use Rattle.items.specs.Musts.{missing};
 use names::Cursor;
+use names::NO_SHAPE;
 use records::ItemRead;
 
 // What was read at c, which has to stand there: where it does not, no shape fits (3).
@@ -13,5 +14,5 @@ pub fn must(s: &[u8], c: Cursor, m: ItemRead) -> ItemRead
     let ItemRead::Missing = m else {
         return m;
     };
-    ItemRead::Refused(3, c.blanks(s).at)
+    ItemRead::Refused(NO_SHAPE, c.blanks(s).at)
 }

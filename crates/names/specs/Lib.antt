@@ -9,3 +9,4 @@ pub mod Longest
 pub mod Spellings
 pub mod Table
 pub mod Seen
+pub mod Refusals

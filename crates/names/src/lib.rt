@@ -1,10 +1,21 @@
 // What every layer reads with: a place in a text, what stands there, numbers and names.
 mod numbers;
+mod refusals;
 mod spellings;
 mod table;
 mod tests;
 mod texts;
 
+pub use refusals::EASTER_DAY;
+pub use refusals::NO_PART;
+pub use refusals::NO_ROOM;
+pub use refusals::NO_SHAPE;
+pub use refusals::POINT_IN_TIME;
+pub use refusals::RANGE;
+pub use refusals::TOO_LONG;
+pub use refusals::WEEK_STEP;
+pub use refusals::WEEKS_INVERTED;
+pub use refusals::YEARS_INVERTED;
 pub use spellings::spelt;
 pub use spellings::warns;
 pub use table::DAY;

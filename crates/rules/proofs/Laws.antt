@@ -17,7 +17,6 @@ use Rattle.names.proofs.Ended.{one-ended}
 use Rattle.names.proofs.Chains.{many-local}
 use Rattle.names.proofs.Laws.{one-got, one-other, one-past}
 use Rattle.names.proofs.Skips.{skip-more, skip-stop, skip-end, skip-sure}
-
 use denote.Enum.Declared.{tagOf}
 use types.Run.{OneOf, miss}
 use Rattle.items.specs.declared.Kind.{Kind}

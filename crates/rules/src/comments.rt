@@ -13,7 +13,7 @@ use names::Step;
 fn is_inner(b: u8) -> bool
     ensures { λ r. ⌜ r ≡ comments.isInner b ⌝ }
 {
-    if 32 <= b { b != 34 } else { false }
+    if b' ' <= b { b != b'"' } else { false }
 }
 
 // The place behind bytes of a comment, as many as there are.
@@ -35,7 +35,7 @@ fn inner(s: &[u8], c: Cursor) -> Cursor
 pub fn comment(s: &[u8], c: Cursor) -> CommentRead
     ensures { λ r. ⌜ comments.comment (now (s .entry)) (c .at) ≡ seenComment r ⌝ }
 {
-    let left = c.sign(s, 34);
+    let left = c.sign(s, b'"');
     let Step::Got(d) = left else {
         return CommentRead::Missing;
     };
@@ -45,7 +45,7 @@ pub fn comment(s: &[u8], c: Cursor) -> CommentRead
     if end <= start {
         return CommentRead::Missing;
     }
-    let right = e.sign(s, 34);
+    let right = e.sign(s, b'"');
     let Step::Got(f) = right else {
         return CommentRead::Missing;
     };

@@ -17,19 +17,19 @@ use names::Step;
 fn always(s: &[u8], c: Cursor) -> Step
     ensures { λ r. ⌜ allOf (λ b. b) (bytes "24/7") (now (s .entry)) (c .at) ≡ seenStep r ⌝ }
 {
-    let two = c.sign(s, 50);
+    let two = c.sign(s, b'2');
     let Step::Got(d) = two else {
         return two;
     };
-    let four = d.sign(s, 52);
+    let four = d.sign(s, b'4');
     let Step::Got(e) = four else {
         return four;
     };
-    let slash = e.sign(s, 47);
+    let slash = e.sign(s, b'/');
     let Step::Got(f) = slash else {
         return slash;
     };
-    f.sign(s, 55)
+    f.sign(s, b'7')
 }
 
 // An opening without a comment.
@@ -60,7 +60,7 @@ pub fn begin(s: &[u8], c: Cursor) -> OpeningThen
     let CommentRead::Got(some, e) = wide else {
         return plain(Stage::Beginning, c);
     };
-    let colon = e.sign(s, 58);
+    let colon = e.sign(s, b':');
     match colon {
         Step::Got(f) => OpeningThen {
             opening: Opening {

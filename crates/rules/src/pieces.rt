@@ -29,6 +29,7 @@ use items::Stands;
 use items::look_at;
 use names::Cursor;
 use names::MODIFIER;
+use names::NO_SHAPE;
 use names::Step;
 
 // After a colon a blank and a small part have to stand.
@@ -101,7 +102,7 @@ impl Spot {
         let at = self.at;
         let stage = self.stage;
         match stage {
-            Stage::Beginning => Piece::Refused(3, Cursor { at }.blanks(s).at),
+            Stage::Beginning => Piece::Refused(NO_SHAPE, Cursor { at }.blanks(s).at),
             _ => {
                 let none = no_comment();
                 Piece::End(
@@ -146,7 +147,7 @@ impl Spot {
             Stands::Refused(k, p) => Piece::Refused(k, p),
             Stands::Name(kind, value, d) => {
                 if must {
-                    return Piece::Refused(3, c.blanks(s).at);
+                    return Piece::Refused(NO_SHAPE, c.blanks(s).at);
                 }
                 if kind == MODIFIER {
                     return with_comment(s, d, value);
@@ -155,7 +156,7 @@ impl Spot {
             }
             Stands::Nothing => {
                 if must {
-                    return Piece::Refused(3, c.blanks(s).at);
+                    return Piece::Refused(NO_SHAPE, c.blanks(s).at);
                 }
                 self.noted(s, c)
             }

@@ -9,9 +9,9 @@ use items::LAST_WEEKDAYS;
 use items::MONTH_DAYS;
 use items::NO_KIND;
 use items::TIMES;
+use items::WEEK_NUMBERS;
 use items::WEEKDAYS;
 use items::WEEKS;
-use items::WEEK_NUMBERS;
 use items::YEARS;
 
 // A small part.
@@ -60,10 +60,7 @@ pub fn is_wide(kind: Kind) -> bool
 {
     match kind {
         Kind::Years | Kind::MonthDays | Kind::Weeks | Kind::WeekNumbers => true,
-        Kind::Weekdays
-        | Kind::LastWeekdays
-        | Kind::Holidays
-        | Kind::LastHolidays
-        | Kind::Times => false,
+        Kind::Weekdays | Kind::LastWeekdays | Kind::Holidays | Kind::LastHolidays | Kind::Times =>
+            false,
     }
 }

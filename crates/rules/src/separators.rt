@@ -12,11 +12,11 @@ use names::Step;
 fn comma_blank(s: &[u8], c: Cursor) -> Step
     ensures { λ r. ⌜ rules.commaBlank (now (s .entry)) (c .at) ≡ seenStep r ⌝ }
 {
-    let comma = c.sign(s, 44);
+    let comma = c.sign(s, b',');
     let Step::Got(d) = comma else {
         return comma;
     };
-    if d.byte(s) == 32 {
+    if d.byte(s) == b' ' {
         Step::Got(d)
     } else {
         Step::Missing
@@ -27,18 +27,18 @@ fn comma_blank(s: &[u8], c: Cursor) -> Step
 fn bars(s: &[u8], c: Cursor) -> Step
     ensures { λ r. ⌜ rules.bars (now (s .entry)) (c .at) ≡ seenStep r ⌝ }
 {
-    let bar = c.sign(s, 124);
+    let bar = c.sign(s, b'|');
     let Step::Got(d) = bar else {
         return bar;
     };
-    d.sign(s, 124)
+    d.sign(s, b'|')
 }
 
 // What parts a rule from the next.
 fn separator(s: &[u8], c: Cursor) -> NextRead
     ensures { λ r. ⌜ rules.separator (now (s .entry)) (c .at) ≡ seenNext r ⌝ }
 {
-    let semicolon = c.sign(s, 59);
+    let semicolon = c.sign(s, b';');
     if let Step::Got(d) = semicolon {
         return NextRead::Got(Next::Another(0), d);
     }

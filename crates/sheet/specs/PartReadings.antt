@@ -6,6 +6,7 @@ use lib.Dec.{ltb}
 use lib.IntN.{ℤ}
 use lib.ListN.{length, take}
 use Rattle.names.specs.Tests.{if_then_else_}
+use Rattle.names.specs.Refusals.{noPart, tooLong}
 use Rattle.records.specs.Tables.{asBytes}
 use Rattle.sheet.specs.Parts.{begins, partEnd}
 use Rattle.sheet.specs.Sheets.{refusal, textOf, written, writtenAs, wordsIn}
@@ -33,8 +34,8 @@ partRefusal number = (partAnswerOf (refusal number 0 .0) 0 true, [])
 -- the answer and the records of the part that begins at p, for a table of n words
 unfoldable pub partOf : List ℕ → ℕ → ℕ → PartAnswer × List (List ℤ)
 partOf s p n =
-    if ltb 4096 (length s) then partRefusal 1
-    else if not (begins s p) then partRefusal 2
+    if ltb 4096 (length s) then partRefusal tooLong
+    else if not (begins s p) then partRefusal noPart
     else partTo s p n (partEnd s p)
 
 -- what reading a part answers, and the table afterwards

@@ -6,6 +6,7 @@ use lib.IntN.{ℤ}
 use lib.ListN.{length, drop}
 use Rattle.names.specs.Tests.{if_then_else_}
 use Rattle.names.specs.Read.{Read, got, none, refused}
+use Rattle.names.specs.Refusals.{noRoom, noShape, tooLong}
 use Rattle.rules.specs.Rules.{Rule}
 use Rattle.records.specs.Tables.{Layout, asWords, asBytes, laid}
 use Rattle.sheet.specs.Texts.{rules, records}
@@ -23,13 +24,13 @@ refusal number place = (answerOf number place 0 0, [])
 -- these records, if the groups of 16 words in a table of n words are enough; else 10 at the text's first byte p
 abbrev pub stored : List ℕ → ℕ → ℕ → List (List ℤ) → Answer × List (List ℤ)
 stored s p n rs =
-    if ltb (n / 16) (length rs) then refusal 10 p
+    if ltb (n / 16) (length rs) then refusal noRoom p
     else (answerOf 0 0 (length rs) (warningsOf (drop p s)), rs)
 
 -- what the rules of a text come to. They are read or refused: there is never none of them (`rules-sure`, proofs/Sure.antt)
 abbrev pub judgedText : List ℕ → ℕ → ℕ → Read (List Rule × Unit {0}) → Answer × List (List ℤ)
 judgedText s p n (got l j) = stored s p n (records (l .0))
-judgedText s p n none = refusal 3 p
+judgedText s p n none = refusal noShape p
 judgedText s p n (refused k q) = refusal k q
 
 -- the answer and the records of the text from place p on to the end of s, for a table of n words
@@ -38,7 +39,7 @@ textOf s p n = judgedText s p n (rules s p)
 
 -- the answer and the records of a sheet: one of over 4,096 bytes is not read
 unfoldable pub sheetOf : List ℕ → ℕ → Answer × List (List ℤ)
-sheetOf s n = if ltb 4096 (length s) then refusal 1 0 else textOf s 0 n
+sheetOf s n = if ltb 4096 (length s) then refusal tooLong 0 else textOf s 0 n
 
 -- a table after records are written: only their cells change
 abbrev pub tableAfterAs : {A : Type 0} → Layout A → List A → List (List ℤ) → List A

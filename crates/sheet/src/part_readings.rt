@@ -8,6 +8,8 @@ use crate::parts::begins;
 use crate::parts::part_end;
 use crate::sheets::read_text;
 use crate::sheets::refusal;
+use names::NO_PART;
+use names::TOO_LONG;
 
 // An answer, the next part's place and whether this was the last.
 fn part_answer_of(a: Answer, next: usize, last: bool) -> PartAnswer
@@ -42,18 +44,24 @@ fn part_refusal(number: u8) -> PartAnswer
 }
 
 // The part that begins at a place is read into both tables, if a table of `size` words has room for its records.
-fn part_into(sheet: &[u8], place: usize, size: usize, words: &mut [i32], bytes: &mut [u8]) -> PartAnswer
+fn part_into(
+    sheet: &[u8],
+    place: usize,
+    size: usize,
+    words: &mut [i32],
+    bytes: &mut [u8],
+) -> PartAnswer
     ensures { λ r. ⌜ (r, (now (words .exit), now (bytes .exit))) ≡ into (now (words .entry), now (bytes .entry)) (parts.partOf (now (sheet .entry)) place size) ⌝ }
 {
     if 4096 < sheet.len() {
-        return part_refusal(1);
+        return part_refusal(TOO_LONG);
     }
     if begins(sheet, place) {
         let e = part_end(sheet, place);
         let a = read_text(&sheet[..e], place, size, words, bytes);
         with_next(sheet, e, a)
     } else {
-        part_refusal(2)
+        part_refusal(NO_PART)
     }
 }
 

@@ -9,7 +9,7 @@ ghost use Rattle.sheet.specs.Parts as parts;
 pub fn flips(b: u8, inside: bool) -> bool
     ensures { λ r. ⌜ r ≡ quotes.flips b inside ⌝ }
 {
-    if b == 34 { !inside } else { inside }
+    if b == b'"' { !inside } else { inside }
 }
 
 // Whether the place i stands inside quotes.
@@ -37,7 +37,11 @@ pub fn begins(s: &[u8], place: usize) -> bool
         return false;
     }
     let i = place - 1;
-    if s[i] == 59 { !inside_of(s, i) } else { false }
+    if s[i] == b';' {
+        !inside_of(s, i)
+    } else {
+        false
+    }
 }
 
 // Where the part that begins at p ends.
@@ -48,7 +52,7 @@ pub fn part_end(s: &[u8], p: usize) -> usize
     let mut i = p;
     while i < s.len() {
         let b = s[i];
-        if b == 59 {
+        if b == b';' {
             if inside {
                 i += 1;
             } else {

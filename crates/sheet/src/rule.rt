@@ -16,7 +16,14 @@ use rules::begin;
 use rules::head_of;
 
 // A rule is read: its head and the place after it, or its refusal. Its records go into both tables from a slot on, its head first, then its items, each where the table has its slot.
-pub fn fill_rule(s: &[u8], c: Cursor, separator: u8, words: &mut [i32], bytes: &mut [u8], slot: usize) -> RuleRead
+pub fn fill_rule(
+    s: &[u8],
+    c: Cursor,
+    separator: u8,
+    words: &mut [i32],
+    bytes: &mut [u8],
+    slot: usize,
+) -> RuleRead
     requires { ⌜ length (now s) ≤ 4096 ⌝ }
     requires { ⌜ slot ≤ 4096 ⌝ }
     ensures { λ r. ⌜ ruleInto (now (words .entry), now (bytes .entry)) slot separator (now (s .entry)) (c .at) ≡ seenRuleInto r (now (words .exit), now (bytes .exit)) ⌝ }

@@ -9,6 +9,8 @@ use crate::Answer;
 use crate::Counted;
 use crate::texts::fill_rules;
 use crate::warnings::warnings_of;
+use names::NO_ROOM;
+use names::TOO_LONG;
 use records::keep;
 
 // A refusal gives 0 records and 0 warnings.
@@ -60,7 +62,7 @@ pub fn read_text(s: &[u8], p: usize, size: usize, words: &mut [i32], bytes: &mut
     match counted {
         Counted::Got(n, _) => {
             if size / 16 < n {
-                return refusal(10, p);
+                return refusal(NO_ROOM, p);
             }
             if FEW < n {
                 fill_rules(s, p, words, bytes);
@@ -83,7 +85,7 @@ fn sheet_into(sheet: &[u8], size: usize, words: &mut [i32], bytes: &mut [u8]) ->
     ensures { λ r. ⌜ (r, (now (words .exit), now (bytes .exit))) ≡ into (now (words .entry), now (bytes .entry)) (sheets.sheetOf (now (sheet .entry)) size) ⌝ }
 {
     if 4096 < sheet.len() {
-        return refusal(1, 0);
+        return refusal(TOO_LONG, 0);
     }
     read_text(sheet, 0, size, words, bytes)
 }

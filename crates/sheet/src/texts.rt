@@ -11,6 +11,7 @@ use crate::Counted;
 use crate::Parted;
 use crate::rule::fill_rule;
 use names::Cursor;
+use names::NO_SHAPE;
 use rules::Next;
 use rules::NextRead;
 use rules::RuleRead;
@@ -25,7 +26,7 @@ pub fn parted(s: &[u8], c: Cursor, r: RuleRead) -> Parted
             let behind = next_rule(s, d.blanks(s));
             match behind {
                 NextRead::Got(n, e) => Parted::Got(h.items, n, e),
-                NextRead::Missing => Parted::Refused(3, c.at),
+                NextRead::Missing => Parted::Refused(NO_SHAPE, c.at),
             }
         }
         RuleRead::Refused(k, _) => Parted::Refused(k, c.at),

@@ -4,6 +4,7 @@ use Prim.Native.Nat.{ℕ, _+_, _*_}
 use mathlib.Core.Bool.{Bool, true, false, _&&_, _||_, not}
 use lib.Dec.{leb, eqb}
 use Rattle.names.specs.Tests.{if_then_else_}
+use Rattle.names.specs.Refusals.{pointInTime, range}
 use Rattle.records.specs.Items.{signed}
 use Rattle.records.specs.declared.Time.{Time}
 use Rattle.records.specs.declared.Time.the-variants as time
@@ -80,10 +81,10 @@ plusOf (Hours c) = false
 
 -- what a span in range is
 abbrev pub spanOf : RawSpan → Meant
-spanOf (Alone t) = Refused 8
+spanOf (Alone t) = Refused pointInTime
 spanOf (Open t) = Is (Times (record { start = timeOf t; end = time.Fixed 1440; repeats = Never; plus = true }))
 spanOf (Until a b t) = Is (Times (record { start = timeOf a; end = timeOf b; repeats = repeatOf t; plus = plusOf t }))
 
 -- the meaning: 4, then 8
 unfoldable pub spanMeaning : RawSpan → Meant
-spanMeaning r = if not (goodSpan r) then Refused 4 else spanOf r
+spanMeaning r = if not (goodSpan r) then Refused range else spanOf r

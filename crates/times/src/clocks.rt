@@ -19,7 +19,7 @@ pub fn clock(s: &[u8], c: Cursor) -> ClockRead
     let Num::Got(h, d) = hours else {
         return ClockRead::Missing;
     };
-    let colon = d.sign(s, 58);
+    let colon = d.sign(s, b':');
     let Step::Got(e) = colon else {
         return ClockRead::Missing;
     };
@@ -50,11 +50,11 @@ fn sun(event: u8, less: bool, time: ClockRead) -> TimeRead
 fn moved(s: &[u8], c: Cursor, event: u8) -> TimeRead
     ensures { λ r. ⌜ times.moved event (now (s .entry)) (c .at) ≡ seenTime r ⌝ }
 {
-    let plus = c.sign(s, 43);
+    let plus = c.sign(s, b'+');
     if let Step::Got(d) = plus {
         return sun(event, false, clock(s, d));
     }
-    let minus = c.sign(s, 45);
+    let minus = c.sign(s, b'-');
     let Step::Got(e) = minus else {
         return TimeRead::Missing;
     };
@@ -65,7 +65,7 @@ fn moved(s: &[u8], c: Cursor, event: u8) -> TimeRead
 fn moved_event(s: &[u8], c: Cursor) -> TimeRead
     ensures { λ r. ⌜ times.movedEvent (now (s .entry)) (c .at) ≡ seenTime r ⌝ }
 {
-    let left = c.sign(s, 40);
+    let left = c.sign(s, b'(');
     let Step::Got(d) = left else {
         return TimeRead::Missing;
     };
@@ -77,7 +77,7 @@ fn moved_event(s: &[u8], c: Cursor) -> TimeRead
     let TimeRead::Got(t, f) = time else {
         return TimeRead::Missing;
     };
-    let right = f.sign(s, 41);
+    let right = f.sign(s, b')');
     let Step::Got(g) = right else {
         return TimeRead::Missing;
     };

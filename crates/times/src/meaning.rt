@@ -5,6 +5,8 @@ use crate::Clock;
 use crate::RawSpan;
 use crate::RawTail;
 use crate::RawTime;
+use names::POINT_IN_TIME;
+use names::RANGE;
 use records::Item;
 use records::Meant;
 use records::Repeat;
@@ -143,7 +145,7 @@ fn span_of(r: RawSpan) -> Meant
     ensures { λ x. ⌜ x ≡ meanings.spanOf r ⌝ }
 {
     match r {
-        RawSpan::Alone(_) => Meant::Refused(8),
+        RawSpan::Alone(_) => Meant::Refused(POINT_IN_TIME),
         RawSpan::Open(t) => {
             let start = time_of(t);
             Meant::Is(Item::Times(Span {
@@ -175,6 +177,6 @@ pub fn span_meaning(r: RawSpan) -> Meant
     if good_span(r) {
         span_of(r)
     } else {
-        Meant::Refused(4)
+        Meant::Refused(RANGE)
     }
 }

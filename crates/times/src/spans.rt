@@ -47,14 +47,14 @@ fn tail(s: &[u8], c: Cursor) -> TailThen
         tail: RawTail::Nothing,
         next: c,
     };
-    let plus = c.sign(s, 43);
+    let plus = c.sign(s, b'+');
     if let Step::Got(d) = plus {
         return TailThen {
             tail: RawTail::Plus,
             next: d,
         };
     }
-    let slash = c.sign(s, 47);
+    let slash = c.sign(s, b'/');
     let Step::Got(e) = slash else {
         return nothing;
     };
@@ -69,7 +69,7 @@ fn tail(s: &[u8], c: Cursor) -> TailThen
 fn until_time(s: &[u8], c: Cursor, start: RawTime) -> SpanRead
     ensures { λ r. ⌜ spans.untilTime start (now (s .entry)) (c .at) ≡ seenSpan r ⌝ }
 {
-    let minus = c.sign(s, 45);
+    let minus = c.sign(s, b'-');
     let Step::Got(d) = minus else {
         return SpanRead::Missing;
     };
@@ -87,7 +87,7 @@ fn until_time(s: &[u8], c: Cursor, start: RawTime) -> SpanRead
 fn span_behind(s: &[u8], c: Cursor, start: RawTime) -> SpanThen
     ensures { λ r. ⌜ spans.spanBehind start (now (s .entry)) (c .at) ≡ thenSpan r ⌝ }
 {
-    let plus = c.sign(s, 43);
+    let plus = c.sign(s, b'+');
     if let Step::Got(d) = plus {
         return SpanThen {
             span: RawSpan::Open(start),

@@ -16,4 +16,4 @@ bare-spec =
     (λ c. search needs)  -- enum-told
     (λ c. c .dates-of .ensures ∙ rw (c .before .before .before .day .given .1, c .before .bare-end .ensures))  -- returns
     (λ c. c .dates-of2 .ensures ∙ rw (c .before .before .day2 .given .1))  -- returns-2
-    (λ c. search needs))  -- returns-3
+    (λ c. rw (c .enum-told .given .1)))  -- returns-3

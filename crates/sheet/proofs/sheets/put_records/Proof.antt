@@ -27,8 +27,7 @@ put-records-spec =
     (λ c κs. search needs)  -- keep-requires
     (λ c. search needs)  -- add-slot
     (λ c. search needs)  -- loop-less
-    (λ c. let k = c .before .before .before in let l = k .before .before .before .before .before in
-    (
+    (λ c. let k = c .before .before .before in let l = k .before .before .before .before .before in (
       search needs,
       c .before .before .words .given ∙ l .loop .inv .1,
       c .before .bytes .given ∙ l .loop .inv .2,

@@ -15,6 +15,6 @@ span-of-spec =
     (λ c κs. search needs)  -- time-of-requires-3
     (λ c κs. search needs)  -- repeat-of-requires
     (λ c κs. search needs)  -- plus-of-requires
-    (λ c. search needs)  -- returns
+    (λ c. rw (c .enum-told .given .1))  -- returns
     (λ c. rw (c .before .before .r .given .1, c .time-of .ensures))  -- returns-2
     (λ c. let b = c .before .before .before in rw (b .before .before .r2 .given .1, b .time-of2 .ensures, c .before .before .time-of3 .ensures, c .before .repeat-of .ensures, c .plus-of .ensures)))  -- returns-3

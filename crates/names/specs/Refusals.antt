@@ -1,0 +1,42 @@
+-- The refusal numbers: the rows of the rules' table.
+use Prim.Native.Nat.{ℕ}
+
+-- over 4,096 bytes
+abbrev pub tooLong : ℕ
+tooLong = 1
+
+-- the given place is no part's beginning
+abbrev pub noPart : ℕ
+noPart = 2
+
+-- no shape fits
+abbrev pub noShape : ℕ
+noShape = 3
+
+-- number out of range
+abbrev pub range : ℕ
+range = 4
+
+-- week step above 255
+abbrev pub weekStep : ℕ
+weekStep = 5
+
+-- years inverted
+abbrev pub yearsInverted : ℕ
+yearsInverted = 6
+
+-- weeks inverted
+abbrev pub weeksInverted : ℕ
+weeksInverted = 7
+
+-- point in time
+abbrev pub pointInTime : ℕ
+pointInTime = 8
+
+-- bare day after easter
+abbrev pub easterDay : ℕ
+easterDay = 9
+
+-- all else good, more records than whole groups of 16 words in the table
+abbrev pub noRoom : ℕ
+noRoom = 10

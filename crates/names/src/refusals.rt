@@ -1,0 +1,30 @@
+// The refusal numbers: the rows of the rules' table.
+// over 4,096 bytes
+pub const TOO_LONG: u8 = 1;
+
+// the given place is no part's beginning
+pub const NO_PART: u8 = 2;
+
+// no shape fits
+pub const NO_SHAPE: u8 = 3;
+
+// number out of range
+pub const RANGE: u8 = 4;
+
+// week step above 255
+pub const WEEK_STEP: u8 = 5;
+
+// years inverted
+pub const YEARS_INVERTED: u8 = 6;
+
+// weeks inverted
+pub const WEEKS_INVERTED: u8 = 7;
+
+// point in time
+pub const POINT_IN_TIME: u8 = 8;
+
+// bare day after easter
+pub const EASTER_DAY: u8 = 9;
+
+// all else good, more records than whole groups of 16 words in the table
+pub const NO_ROOM: u8 = 10;
