@@ -56,10 +56,11 @@ class Meter:
         return (times[1] - times[0]) / ((many - few) * len(lines_of(path)))
 
     def row(self, name, words, sheets, behind=()):
-        """writes what one reading of each sheet costs, and returns the last by the first"""
+        """writes what one reading of each sheet costs, and returns the most that a byte costs by what it costs in the first"""
         costs = [self.each(words, self.file_of(sheet), 1, 11, behind) for sheet in sheets]
-        print(f"| {name} | " + " | ".join(f"{c:,.0f}" for c in costs) + f" | {costs[-1] / costs[0]:.0f} times |", flush=True)
-        return costs[-1] / costs[0]
+        most = max(c / len(s) for c, s in zip(costs, sheets)) * len(sheets[0]) / costs[0]
+        print(f"| {name} | " + " | ".join(f"{c:,.0f}" for c in costs) + f" | {most:.2f} times |", flush=True)
+        return most
 
     def file_of(self, sheet):
         path = os.path.join(self.folder.name, f"{len(os.listdir(self.folder.name))}.txt")
@@ -114,7 +115,7 @@ def main():
         print(f"| {name} | {figures[-1]:,.0f} | {wall} |", flush=True)
 
     print("\nInstructions of one reading by the sheet's size in bytes:\n")
-    print("| sheet | " + " | ".join(f"{n:,}" for n in SIZES) + " | 4,096 by 24 |\n|---|" + "---|" * (len(SIZES) + 1))
+    print("| sheet | " + " | ".join(f"{n:,}" for n in SIZES) + " | a byte, at most, by one at 24 |\n|---|" + "---|" * (len(SIZES) + 1))
     growth = []
     for rows in zip(*map(sheets_by_size, SIZES)):
         for sheet in (sheet for _, sheet in rows):
@@ -131,7 +132,7 @@ def main():
     asked("the aim: at most 2,500", f"{figures[0]:,.0f}", figures[0] <= 2500)
     for (name, _), figure in zip(rusts, figures[1:]):
         asked(f"at least 10 times fewer than {name}", f"{figure / figures[0]:.1f} times", figure >= 10 * figures[0])
-    asked("a sheet of 4,096 bytes costs at most 200 times one of 24", f"at most {max(growth):.0f} times", max(growth) <= 200)
+    asked("a byte of a longer sheet costs at most twice one of 24", f"at most {max(growth):.2f} times", max(growth) <= 2)
 
 
 if __name__ == "__main__":
