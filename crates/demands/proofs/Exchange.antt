@@ -1,59 +1,25 @@
--- Demand 3, "Exchange one part for bytes whose quotes pair and whose semicolons stand inside quotes, both sheets within 4,096 bytes. Every other part, read
--- with a table as long as before, has its old answer and records, later places shifted by the change in length":
--- the part x between a and b is exchanged for y. A part that begins before x begins where it did and is answered as it was. A part that begins r bytes
--- behind x begins r bytes behind y, and each place of its old answer and records plus the length of y is that of the new plus the length of x; the 0 of
--- acceptance, of no comment and of a last part's next stays, as `movedPart` says. The new sheet has these parts, the part y, and no others.
+-- One part of a sheet is exchanged for other bytes: what holds of the other parts (specs/Exchanged.antt).
 use Prim.Native.Nat.{ℕ, zero, suc, _+_, _-_, _≤_, _<_}
 use mathlib.Core.List.{List, [], _∷_, _++_, append-nil, append-assoc}
 use mathlib.Core.Bool.{true, false, true≢false}
 use mathlib.Core.Logic.{_≢_, _⊎_, inl, inr}
-use mathlib.Core.Path.{_≡_, refl, sym, ap, _∙_, subst}
+use mathlib.Core.Path.{_≡_, sym, ap, _∙_, subst}
 use native.Mathlib.Omega.{arith}
 use native.Mathlib.Decide.{decLt}
-use lib.IntN.{ℤ}
 use lib.ListN.{length, length-append}
 use lib.Seq.{take-append-le, take-append-seam, drop-append-seam, getD-append-seam}
 use borrow.Author.Tests.{le-ltb, lt-ltb}
 use Rattle.names.specs.Quotes.{insideOf}
 use Rattle.sheet.specs.Parts.{begins, partIn, partEnd}
-use Rattle.sheet.specs.Sheets.{written}
-use Rattle.sheet.specs.PartReadings.{withNext, partOf, partReading}
+use Rattle.records.specs.Tables.{Layout}
+use Rattle.sheet.specs.Sheets.{writtenAs}
+use Rattle.sheet.specs.PartReadings.{withNext, partOf}
 use Rattle.demands.specs.Moved.{movedPart}
+use Rattle.demands.specs.Exchanged.{Exchanged, Left, before, behind, Was, LeftCall}
 use Rattle.sheet.specs.declared.PartAnswer.{PartAnswer}
 use Rattle.sheet.proofs.Laws.{begins-past}
 use Rattle.sheet.proofs.PartLaws.{part-cut, part-ended, part-paired, begins-later, begins-earlier, begins-from, begins-none, end-earlier}
 use Rattle.demands.proofs.PartMoves.{part-twice, part-still, part-move}
-
--- both sheets are within 4,096 bytes, x is a part of the first, the quotes of y pair, and each `;` of y stands inside quotes
-pub record Exchanged (a x y b : List ℕ) : Type 0 where
-  pub old-fits : length (a ++ (x ++ b)) ≤ 4096
-  pub new-fits : length (a ++ (y ++ b)) ≤ 4096
-  pub part-begins : begins (a ++ (x ++ b)) (length a) ≡ true
-  pub part-ends : partEnd (a ++ (x ++ b)) (length a) ≡ length a + length x
-  pub pairs : insideOf y ≡ false
-  pub quoted : partIn false y ≡ length y
-
--- what the exchange leaves of the part that begins at a place of the first sheet, for tables of n words: a part of the second
-pub data Left (a x y b : List ℕ) (n : ℕ) : ℕ → Type 0 where
-  before : {p : ℕ} → p < length a → begins (a ++ (y ++ b)) p ≡ true → partOf (a ++ (y ++ b)) p n ≡ partOf (a ++ (x ++ b)) p n → Left a x y b n p
-  behind : (r : ℕ) → 0 < r → begins (a ++ (y ++ b)) (length a + length y + r) ≡ true →
-      movedPart (length y) (partOf (a ++ (x ++ b)) (length a + length x + r) n) ≡ movedPart (length x) (partOf (a ++ (y ++ b)) (length a + length y + r) n) → Left a x y b n (length a + length x + r)
-
--- what the part that begins at a place of the second sheet was: a part of the first
-pub data Was (a x y b : List ℕ) : ℕ → Type 0 where
-  before : {p : ℕ} → p < length a → begins (a ++ (x ++ b)) p ≡ true → Was a x y b p
-  behind : (r : ℕ) → 0 < r → begins (a ++ (x ++ b)) (length a + length x + r) ≡ true → Was a x y b (length a + length y + r)
-
--- what the exchange leaves of the call for the part that begins at a place of the first sheet, where t was lent to it and t′ is lent to the second
-pub data LeftCall (a x y b : List ℕ) (t t′ : List ℤ) : ℕ → Type 0 where
-  before : {p : ℕ} → p < length a → partReading (a ++ (y ++ b)) p t′ ≡ written t′ (partOf (a ++ (x ++ b)) p (length t)) → LeftCall a x y b t t′ p
-  behind : (r : ℕ) (shifted : PartAnswer × List (List ℤ)) → 0 < r → movedPart (length y) (partOf (a ++ (x ++ b)) (length a + length x + r) (length t)) ≡ movedPart (length x) shifted →
-      partReading (a ++ (y ++ b)) (length a + length y + r) t′ ≡ written t′ shifted → LeftCall a x y b t t′ (length a + length x + r)
-
--- the call for a part gives the part's answer, and writes its records
-pub call-is : (s : List ℕ) (p : ℕ) (t : List ℤ) → partReading s p t ≡ written t (partOf s p (length t))
-unfolding partReading
-call-is s p t = refl
 
 -- ---- what stands behind a part
 
@@ -223,12 +189,13 @@ module _ {a x y b : List ℕ} (z : Exchanged a x y b) where
           let l : 0 < r = omega (arith, exchange-itself .1) in
           subst (Was a x y b) e (behind r l (sym (places z behind-x r l) ∙ rw e k))
 
-  -- the exchange, at the calls: with a table as long as before, each other part has its old answer and records
-  pub exchange-call : (p : ℕ) (t t′ : List ℤ) → length t ≡ length t′ → begins (a ++ (x ++ b)) p ≡ true → p ≢ length a → LeftCall a x y b t t′ p
-  exchange-call p t t′ l k d = go (exchange p (length t) k d)
+  -- the exchange, at a call that gives what the part comes to with room for n words
+  pub exchange-called : {A : Type 0} (d : Layout A) (read : List ℕ → ℕ → List A → PartAnswer × List A) (n : ℕ) (t : List A) → ((s : List ℕ) (p : ℕ) → read s p t ≡ writtenAs d t (partOf s p n)) →
+      (p : ℕ) → begins (a ++ (x ++ b)) p ≡ true → p ≢ length a → LeftCall d read n t a x y b p
+  exchange-called d read n t is p k e = go (exchange p n k e)
     where
-      go : {p : ℕ} → Left a x y b (length t) p → LeftCall a x y b t t′ p
-      go (before {p} h c e) = before h (rw (← e, l) (call-is (a ++ (y ++ b)) p t′))
+      go : {p : ℕ} → Left a x y b n p → LeftCall d read n t a x y b p
+      go (before {p} h c e) = before h (rw (← e) (is (a ++ (y ++ b)) p))
       go (behind r h c e) =
           let q = length a + length y + r in
-          behind r (partOf (a ++ (y ++ b)) q (length t)) h e (rw l (call-is (a ++ (y ++ b)) q t′))
+          behind r (partOf (a ++ (y ++ b)) q n) h e (is (a ++ (y ++ b)) q)

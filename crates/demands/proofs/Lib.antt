@@ -8,7 +8,11 @@ pub mod WarnedCut
 pub mod Together
 pub mod TogetherCalls
 pub mod TogetherWords
+pub mod BytesOfWords
 pub mod TogetherBytes
+pub mod Calls
 pub mod Opened
 pub mod Proved
 pub mod Numbers
+pub mod Refusals
+pub mod Apart

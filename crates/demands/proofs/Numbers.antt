@@ -19,7 +19,7 @@ use Rattle.sheet.specs.declared.PartAnswer.{PartAnswer}
 use Rattle.sheet.proofs.Moves.{rules-ended}
 
 -- one or the other, by a test
-either : {A : Type 0} (P : A → Type 0) (t : Bool) (a b : A) → P a → P b → P (if t then a else b)
+pub either : {A : Type 0} (P : A → Type 0) (t : Bool) (a b : A) → P a → P b → P (if t then a else b)
 either P true a b h k = h
 either P false a b h k = k
 

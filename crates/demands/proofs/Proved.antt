@@ -7,68 +7,71 @@ use mathlib.Core.Bool.{Bool, true, false}
 use lib.IntN.{ℤ, pos}
 use lib.ListN.{length, replicate}
 use Rattle.names.specs.Texts.{bytes}
-use Rattle.sheet.specs.Sheets.{answerOf, sheetOf}
-use Rattle.sheet.specs.PartReadings.{partAnswerOf, partOf}
-use Rattle.sheet.specs.declared.Answer.{Answer}
-use Rattle.sheet.specs.declared.PartAnswer.{PartAnswer}
+use Rattle.sheet.specs.Sheets.{sheetOf}
+use Rattle.sheet.specs.PartReadings.{partOf}
+use Rattle.entries.specs.Calls.{flag, sheetNumbers, partNumbers}
 use Rattle.demands.proofs.Opened.{opened}
 
--- a record of 16 words, whose last zeros a row leaves out
-abbrev pub padded : List ℤ → List ℤ
+-- what is read: the whole sheet; or the part at a place, whose answer also has the next part's place and whether it is the last
+pub data Asked : Type 0 where
+  whole : Asked
+  part : (at next : ℕ) (last : Bool) → Asked
+
+-- a sheet, what is read of it, and the answer
+pub record Row : Type 0 where
+  pub sheet : List ℕ
+  pub asked : Asked
+  pub number : ℕ
+  pub place : ℕ
+  pub warnings : ℕ
+  pub records : List (List ℤ)
+
+-- the words of the table
+abbrev room : ℕ
+room = 8192
+
+-- the numbers and the records that the definition computes
+abbrev computed : List ℕ → Asked → List ℕ × List (List ℤ)
+computed s whole = (sheetNumbers (sheetOf s room .0), sheetOf s room .1)
+computed s (part at next last) = (partNumbers (partOf s at room .0), partOf s at room .1)
+
+-- and those of a row; a row leaves out a record's last zeros
+abbrev more : Asked → List ℕ
+more whole = []
+more (part at next last) = next ∷ flag last ∷ []
+
+abbrev padded : List ℤ → List ℤ
 padded ws = ws ++ replicate (16 - length ws) (pos 0)
 
--- a sheet, the words of its table; number, place, warnings, records
-abbrev pub Sheet : Type 0
-Sheet = List ℕ × ℕ × ℕ × ℕ × ℕ × List (List ℤ)
+abbrev said : Row → List ℕ × List (List ℤ)
+said r = (r .number ∷ r .place ∷ length (r .records) ∷ r .warnings ∷ more (r .asked), map padded (r .records))
 
--- what the definition computes of a row, and what the row says
-abbrev pub sheet : Sheet → Answer × List (List ℤ)
-sheet r = sheetOf (r .0) (r .1)
-
-abbrev pub sheetSays : Sheet → Answer × List (List ℤ)
-sheetSays r = (answerOf (r .2) (r .3) (length (r .5)) (r .4), map padded (r .5))
-
--- a sheet, a place, the words of its table; number, place, warnings, next, last, records
-abbrev pub Part : Type 0
-Part = List ℕ × ℕ × ℕ × ℕ × ℕ × ℕ × ℕ × Bool × List (List ℤ)
-
-abbrev pub part : Part → PartAnswer × List (List ℤ)
-part r = partOf (r .0) (r .1) (r .2)
-
-abbrev pub partSays : Part → PartAnswer × List (List ℤ)
-partSays r = (partAnswerOf (answerOf (r .3) (r .4) (length (r .8)) (r .5)) (r .6) (r .7), map padded (r .8))
-
--- the sheets
-unfoldable pub rows : List Sheet
+-- the table
+unfoldable pub rows : List Row
 rows =
-    (bytes "2020 Dec 25-05", 8192, 0, 0, 0, (pos 1 ∷ pos 0 ∷ pos 0 ∷ pos 0 ∷ pos 0 ∷ pos 1 ∷ []) ∷ (pos 4 ∷ pos 1 ∷ pos 2020 ∷ pos 12 ∷ pos 25 ∷ pos 0 ∷ pos 0 ∷ pos 0 ∷ pos 1 ∷ pos 2021 ∷ pos 1 ∷ pos 5 ∷ []) ∷ [])
-    ∷ (bytes "Dec 25-25", 8192, 0, 0, 0, (pos 1 ∷ pos 0 ∷ pos 0 ∷ pos 0 ∷ pos 0 ∷ pos 1 ∷ []) ∷ (pos 4 ∷ pos 1 ∷ pos 0 ∷ pos 12 ∷ pos 25 ∷ pos 0 ∷ pos 0 ∷ pos 0 ∷ pos 1 ∷ pos 0 ∷ pos 12 ∷ pos 25 ∷ []) ∷ [])
-    ∷ (bytes "9999 Dec 31-01", 8192, 0, 0, 0, (pos 1 ∷ pos 0 ∷ pos 0 ∷ pos 0 ∷ pos 0 ∷ pos 1 ∷ []) ∷ (pos 4 ∷ pos 1 ∷ pos 9999 ∷ pos 12 ∷ pos 31 ∷ pos 0 ∷ pos 0 ∷ pos 0 ∷ pos 1 ∷ pos 10000 ∷ pos 1 ∷ pos 1 ∷ []) ∷ [])
-    ∷ (bytes "easter-05", 8192, 9, 0, 0, [])
-    ∷ (bytes "10:00", 8192, 8, 0, 0, [])
-    ∷ (bytes "10:00-12:00/24:00", 8192, 4, 0, 0, [])
-    ∷ (bytes "Fr[3-1]", 8192, 0, 0, 0, (pos 1 ∷ pos 0 ∷ pos 0 ∷ pos 0 ∷ pos 0 ∷ pos 1 ∷ []) ∷ (pos 6 ∷ pos 5 ∷ pos 5 ∷ pos 0 ∷ pos 31 ∷ pos 31 ∷ []) ∷ [])
-    ∷ (bytes "Fr[3-1,2]", 8192, 0, 0, 0, (pos 1 ∷ pos 0 ∷ pos 0 ∷ pos 0 ∷ pos 0 ∷ pos 1 ∷ []) ∷ (pos 6 ∷ pos 5 ∷ pos 5 ∷ pos 0 ∷ pos 2 ∷ []) ∷ [])
-    ∷ (bytes "week 5-1/256", 8192, 5, 0, 0, [])
-    ∷ (bytes "week 5-1/255", 8192, 7, 0, 0, [])
-    ∷ (bytes "2021-2020", 8192, 6, 0, 0, [])
-    ∷ (bytes "2020-2022/2", 8192, 0, 0, 0, (pos 1 ∷ pos 0 ∷ pos 0 ∷ pos 0 ∷ pos 0 ∷ pos 1 ∷ []) ∷ (pos 2 ∷ pos 2020 ∷ pos 2022 ∷ pos 2 ∷ []) ∷ [])
-    ∷ (bytes "2020-2022/3", 8192, 0, 0, 0, (pos 1 ∷ pos 0 ∷ pos 0 ∷ pos 0 ∷ pos 0 ∷ pos 1 ∷ []) ∷ (pos 2 ∷ pos 2020 ∷ pos 2022 ∷ pos 1 ∷ []) ∷ [])
-    ∷ (bytes "", 8192, 3, 0, 0, [])
-    ∷ (bytes "Mo;; Tu", 8192, 3, 3, 0, [])
-    ∷ (bytes "Mo,Tu", 8192, 0, 0, 0, (pos 1 ∷ pos 0 ∷ pos 0 ∷ pos 0 ∷ pos 0 ∷ pos 2 ∷ []) ∷ (pos 6 ∷ pos 1 ∷ pos 1 ∷ pos 0 ∷ pos 31 ∷ pos 31 ∷ []) ∷ (pos 6 ∷ pos 2 ∷ pos 2 ∷ pos 0 ∷ pos 31 ∷ pos 31 ∷ []) ∷ [])
-    ∷ (bytes "Mo, Tu", 8192, 0, 0, 0, (pos 1 ∷ pos 0 ∷ pos 0 ∷ pos 0 ∷ pos 0 ∷ pos 1 ∷ []) ∷ (pos 6 ∷ pos 1 ∷ pos 1 ∷ pos 0 ∷ pos 31 ∷ pos 31 ∷ []) ∷ (pos 1 ∷ pos 1 ∷ pos 0 ∷ pos 0 ∷ pos 0 ∷ pos 1 ∷ []) ∷ (pos 6 ∷ pos 2 ∷ pos 2 ∷ pos 0 ∷ pos 31 ∷ pos 31 ∷ []) ∷ [])
-    ∷ []
-
--- the parts
-unfoldable pub parts : List Part
-parts =
-    (bytes "Mo;; Tu", 0, 8192, 0, 0, 0, 3, false, (pos 1 ∷ pos 0 ∷ pos 0 ∷ pos 0 ∷ pos 0 ∷ pos 1 ∷ []) ∷ (pos 6 ∷ pos 1 ∷ pos 1 ∷ pos 0 ∷ pos 31 ∷ pos 31 ∷ []) ∷ [])
-    ∷ (bytes "Mo;; Tu", 3, 8192, 3, 3, 0, 4, false, [])
-    ∷ (bytes "Mo;; Tu", 4, 8192, 0, 0, 0, 0, true, (pos 1 ∷ pos 0 ∷ pos 0 ∷ pos 0 ∷ pos 0 ∷ pos 1 ∷ []) ∷ (pos 6 ∷ pos 2 ∷ pos 2 ∷ pos 0 ∷ pos 31 ∷ pos 31 ∷ []) ∷ [])
+    record { sheet = bytes "2020 Dec 25-05"; asked = whole; number = 0; place = 0; warnings = 0; records = (pos 1 ∷ pos 0 ∷ pos 0 ∷ pos 0 ∷ pos 0 ∷ pos 1 ∷ []) ∷ (pos 4 ∷ pos 1 ∷ pos 2020 ∷ pos 12 ∷ pos 25 ∷ pos 0 ∷ pos 0 ∷ pos 0 ∷ pos 1 ∷ pos 2021 ∷ pos 1 ∷ pos 5 ∷ []) ∷ [] }
+    ∷ record { sheet = bytes "Dec 25-25"; asked = whole; number = 0; place = 0; warnings = 0; records = (pos 1 ∷ pos 0 ∷ pos 0 ∷ pos 0 ∷ pos 0 ∷ pos 1 ∷ []) ∷ (pos 4 ∷ pos 1 ∷ pos 0 ∷ pos 12 ∷ pos 25 ∷ pos 0 ∷ pos 0 ∷ pos 0 ∷ pos 1 ∷ pos 0 ∷ pos 12 ∷ pos 25 ∷ []) ∷ [] }
+    ∷ record { sheet = bytes "9999 Dec 31-01"; asked = whole; number = 0; place = 0; warnings = 0; records = (pos 1 ∷ pos 0 ∷ pos 0 ∷ pos 0 ∷ pos 0 ∷ pos 1 ∷ []) ∷ (pos 4 ∷ pos 1 ∷ pos 9999 ∷ pos 12 ∷ pos 31 ∷ pos 0 ∷ pos 0 ∷ pos 0 ∷ pos 1 ∷ pos 10000 ∷ pos 1 ∷ pos 1 ∷ []) ∷ [] }
+    ∷ record { sheet = bytes "easter-05"; asked = whole; number = 9; place = 0; warnings = 0; records = [] }
+    ∷ record { sheet = bytes "10:00"; asked = whole; number = 8; place = 0; warnings = 0; records = [] }
+    ∷ record { sheet = bytes "10:00-12:00/24:00"; asked = whole; number = 4; place = 0; warnings = 0; records = [] }
+    ∷ record { sheet = bytes "Fr[3-1]"; asked = whole; number = 0; place = 0; warnings = 0; records = (pos 1 ∷ pos 0 ∷ pos 0 ∷ pos 0 ∷ pos 0 ∷ pos 1 ∷ []) ∷ (pos 6 ∷ pos 5 ∷ pos 5 ∷ pos 0 ∷ pos 31 ∷ pos 31 ∷ []) ∷ [] }
+    ∷ record { sheet = bytes "Fr[3-1,2]"; asked = whole; number = 0; place = 0; warnings = 0; records = (pos 1 ∷ pos 0 ∷ pos 0 ∷ pos 0 ∷ pos 0 ∷ pos 1 ∷ []) ∷ (pos 6 ∷ pos 5 ∷ pos 5 ∷ pos 0 ∷ pos 2 ∷ []) ∷ [] }
+    ∷ record { sheet = bytes "week 5-1/256"; asked = whole; number = 5; place = 0; warnings = 0; records = [] }
+    ∷ record { sheet = bytes "week 5-1/255"; asked = whole; number = 7; place = 0; warnings = 0; records = [] }
+    ∷ record { sheet = bytes "2021-2020"; asked = whole; number = 6; place = 0; warnings = 0; records = [] }
+    ∷ record { sheet = bytes "2020-2022/2"; asked = whole; number = 0; place = 0; warnings = 0; records = (pos 1 ∷ pos 0 ∷ pos 0 ∷ pos 0 ∷ pos 0 ∷ pos 1 ∷ []) ∷ (pos 2 ∷ pos 2020 ∷ pos 2022 ∷ pos 2 ∷ []) ∷ [] }
+    ∷ record { sheet = bytes "2020-2022/3"; asked = whole; number = 0; place = 0; warnings = 0; records = (pos 1 ∷ pos 0 ∷ pos 0 ∷ pos 0 ∷ pos 0 ∷ pos 1 ∷ []) ∷ (pos 2 ∷ pos 2020 ∷ pos 2022 ∷ pos 1 ∷ []) ∷ [] }
+    ∷ record { sheet = bytes ""; asked = whole; number = 3; place = 0; warnings = 0; records = [] }
+    ∷ record { sheet = bytes "Mo;; Tu"; asked = whole; number = 3; place = 3; warnings = 0; records = [] }
+    ∷ record { sheet = bytes "Mo,Tu"; asked = whole; number = 0; place = 0; warnings = 0; records = (pos 1 ∷ pos 0 ∷ pos 0 ∷ pos 0 ∷ pos 0 ∷ pos 2 ∷ []) ∷ (pos 6 ∷ pos 1 ∷ pos 1 ∷ pos 0 ∷ pos 31 ∷ pos 31 ∷ []) ∷ (pos 6 ∷ pos 2 ∷ pos 2 ∷ pos 0 ∷ pos 31 ∷ pos 31 ∷ []) ∷ [] }
+    ∷ record { sheet = bytes "Mo, Tu"; asked = whole; number = 0; place = 0; warnings = 0; records = (pos 1 ∷ pos 0 ∷ pos 0 ∷ pos 0 ∷ pos 0 ∷ pos 1 ∷ []) ∷ (pos 6 ∷ pos 1 ∷ pos 1 ∷ pos 0 ∷ pos 31 ∷ pos 31 ∷ []) ∷ (pos 1 ∷ pos 1 ∷ pos 0 ∷ pos 0 ∷ pos 0 ∷ pos 1 ∷ []) ∷ (pos 6 ∷ pos 2 ∷ pos 2 ∷ pos 0 ∷ pos 31 ∷ pos 31 ∷ []) ∷ [] }
+    ∷ record { sheet = bytes "Mo;; Tu"; asked = part 0 3 false; number = 0; place = 0; warnings = 0; records = (pos 1 ∷ pos 0 ∷ pos 0 ∷ pos 0 ∷ pos 0 ∷ pos 1 ∷ []) ∷ (pos 6 ∷ pos 1 ∷ pos 1 ∷ pos 0 ∷ pos 31 ∷ pos 31 ∷ []) ∷ [] }
+    ∷ record { sheet = bytes "Mo;; Tu"; asked = part 3 4 false; number = 3; place = 3; warnings = 0; records = [] }
+    ∷ record { sheet = bytes "Mo;; Tu"; asked = part 4 0 true; number = 0; place = 0; warnings = 0; records = (pos 1 ∷ pos 0 ∷ pos 0 ∷ pos 0 ∷ pos 0 ∷ pos 1 ∷ []) ∷ (pos 6 ∷ pos 2 ∷ pos 2 ∷ pos 0 ∷ pos 31 ∷ pos 31 ∷ []) ∷ [] }
     ∷ []
 
 -- every row is right
-pub proved : (map sheet rows ≡ map sheetSays rows) × (map part parts ≡ map partSays parts)
-unfolding rows parts opened
-proved = (refl, refl)
+pub proved : map (λ (r : Row). computed (r .sheet) (r .asked)) rows ≡ map said rows
+unfolding rows opened
+proved = refl

@@ -20,47 +20,13 @@ use Rattle.sheet.specs.Sheets.{answerOf, refusal, judgedText, textOf, sheetOf}
 use Rattle.sheet.specs.Warnings.{warningsOf}
 use Rattle.sheet.specs.Parts.{partEnd, begins, places}
 use Rattle.sheet.specs.PartReadings.{partAnswerOf, withNext, partTo, partOf}
-use Rattle.sheet.specs.declared.Answer.{Answer}
-use Rattle.sheet.specs.declared.PartAnswer.{PartAnswer}
 use Rattle.sheet.proofs.Laws.{part-begin, begins-first}
 use Rattle.sheet.proofs.Moves.{rules-ended}
 use Rattle.demands.proofs.Cuts.{joined, rules-cut}
 use Rattle.sheet.proofs.PartLaws.{begins-fits, begins-next, end-split, end-paired}
 use Rattle.demands.proofs.Places.{placesFrom, places-all, places-next, places-none}
 use Rattle.demands.proofs.WarnedCut.{warnings-two}
-
--- ---- what parts come to
-
--- the answer and the records of a text, and of a part
-abbrev pub Reading : Type 0
-Reading = Answer × List (List ℤ)
-
-abbrev pub PartReading : Type 0
-PartReading = PartAnswer × List (List ℤ)
-
--- what holds at every one of these places
-abbrev pub Every : (ℕ → Type 0) → List ℕ → Type 0
-Every P [] = Unit {0}
-Every P (p ∷ ps) = P p × Every P ps
-
--- the sum of what is counted at them
-abbrev pub total : (ℕ → ℕ) → List ℕ → ℕ
-total f [] = 0
-total f (p ∷ ps) = f p + total f ps
-
--- what is found at them, in order
-abbrev pub inOrder : {A : Type 0} → (ℕ → List A) → List ℕ → List A
-inOrder f [] = []
-inOrder f (p ∷ ps) = f p ++ inOrder f ps
-
--- a reading r, with a table of n words, is accepted exactly when every part at these places is and the table holds all their records; then it has their records in order, and their counts are added
-pub record Together (n : ℕ) (r : Reading) (part : ℕ → PartReading) (ps : List ℕ) : Type 0 where
-  pub accepted : Every (λ p. part p .0 .number ≡ 0) ps → total (λ p. part p .0 .records) ps ≤ n / 16 → r .0 .number ≡ 0
-  pub every : r .0 .number ≡ 0 → Every (λ p. part p .0 .number ≡ 0) ps
-  pub holds : r .0 .number ≡ 0 → total (λ p. part p .0 .records) ps ≤ n / 16
-  pub made : r .0 .number ≡ 0 → r .1 ≡ inOrder (λ p. part p .1) ps
-  pub counted : r .0 .number ≡ 0 → r .0 .records ≡ total (λ p. part p .0 .records) ps
-  pub warned : r .0 .number ≡ 0 → r .0 .warnings ≡ total (λ p. part p .0 .warnings) ps
+use Rattle.demands.specs.Together.{Reading, PartReading, Every, total, inOrder, Together}
 
 -- ---- records in a table
 

@@ -1,7 +1,7 @@
 -- Reading into a table of bytes is reading into a table of words: the same numbers, the bytes of its words, and every byte behind them unchanged.
 use Prim.Native.Nat.{ℕ, zero, suc, _+_, _*_, _≤_, _<_}
 use mathlib.Core.List.{List, [], _∷_, _++_}
-use mathlib.Core.Path.{_≡_, refl, ap, _∙_}
+use mathlib.Core.Path.{_≡_, refl, sym, ap, _∙_}
 use native.Mathlib.Omega.{arith}
 use lib.IntN.{ℤ}
 use lib.ListN.{length, set, length-append, length-set}
@@ -13,6 +13,7 @@ use Rattle.records.specs.Tables.{asWords, asBytes, laid}
 use Rattle.sheet.specs.Sheets.{writtenAs, sheetOf, sheetReading, wordsIn, sheetReadingBytes}
 use Rattle.sheet.specs.PartReadings.{partOf, partReading, partReadingBytes}
 use Rattle.sheet.proofs.Readings.{part-held, sheet-held}
+use Rattle.demands.specs.Bytes.{BytesOfWords}
 
 module _ (rest : List ℕ) where
   -- a word's bytes stored in the bytes of words
@@ -67,3 +68,11 @@ module _ (w : List ℤ) (rest : List ℕ) (m : ℕ) (e : length w ≡ m * 16) (h
       let q = part-held s p (length w) in
       ap (λ (n : ℕ). writtenAs asBytes t (partOf s p n)) room
       ∙ ap (λ (l : List ℕ). (partOf s p (length w) .0, l)) (laid-bytes rest (partOf s p (length w) .1) w 0 (q .long) (omega (arith, q .room)))
+
+-- so of every table of bytes (`bytes-of-words`)
+module _ {t : List ℕ} (b : BytesOfWords t) (s : List ℕ) where
+  pub sheet-in-bytes : sheetReadingBytes s t ≡ (sheetReading s (b .words) .0, recordBytes (sheetReading s (b .words) .1) ++ b .rest)
+  sheet-in-bytes = ap (sheetReadingBytes s) (sym (b .same)) ∙ sheet-as-words (b .words) (b .rest) (b .records) (b .whole) (b .short) s
+
+  pub part-in-bytes : (p : ℕ) → partReadingBytes s p t ≡ (partReading s p (b .words) .0, recordBytes (partReading s p (b .words) .1) ++ b .rest)
+  part-in-bytes p = ap (partReadingBytes s p) (sym (b .same)) ∙ part-as-words (b .words) (b .rest) (b .records) (b .whole) (b .short) s p

@@ -1,5 +1,5 @@
 -- The calls: reading a sheet, and reading each of its parts with the same table.
-use Prim.Native.Nat.{ℕ, zero, suc, _+_, _≤_, _<_, _/_}
+use Prim.Native.Nat.{ℕ, zero, suc, _+_, _≤_, _<_}
 use mathlib.Core.List.{List, [], _∷_, _++_}
 use mathlib.Core.Bool.{true}
 use mathlib.Core.Path.{_≡_, refl, sym, ap, _∙_}
@@ -8,64 +8,47 @@ use native.Mathlib.Nat.{add-zero}
 use native.Mathlib.Decide.{decLt}
 use lib.IntN.{ℤ}
 use lib.ListN.{length}
-use Rattle.names.specs.Tests.{if_then_else_}
-use Rattle.records.specs.Tables.{laid, overlay}
+use Rattle.records.specs.Tables.{Layout, laid}
 use Rattle.sheet.specs.Parts.{partEnd, begins, places}
-use Rattle.sheet.specs.Sheets.{sheetReading}
-use Rattle.sheet.specs.PartReadings.{partOf, partReading}
-use Rattle.sheet.specs.declared.PartAnswer.{PartAnswer}
+use Rattle.sheet.specs.Sheets.{writtenAs, sheetOf}
+use Rattle.sheet.specs.PartReadings.{partOf}
 use Rattle.sheet.proofs.Laws.{part-begin, begins-first}
 use Rattle.sheet.proofs.PartLaws.{begins-fits, begins-next}
+use Rattle.demands.specs.Together.{inOrder, writtenOver, TogetherCalls, walk}
 use Rattle.demands.proofs.Places.{placesFrom, places-all, places-next, places-none}
-use Rattle.demands.proofs.Together.{Every, total, inOrder, part-more, part-last, together}
+use Rattle.demands.proofs.Together.{part-more, part-last, together}
 
--- a table with the records found at these places written over it one after another, from slot k on
-abbrev pub written : (ℕ → List (List ℤ)) → List ℤ → ℕ → List ℕ → List ℤ
-written f t k [] = t
-written f t k (p ∷ ps) = written f (overlay t k (f p)) (k + length (f p)) ps
+module _ {A : Type 0} (d : Layout A) where
+  -- one list of records after another
+  laid-append : (a b : List (List ℤ)) (t : List A) (k : ℕ) → laid d (laid d t k a) (k + length a) b ≡ laid d t k (a ++ b)
+  unfolding laid
+  laid-append [] b t k = ap (λ (j : ℕ). laid d t j b) (add-zero k)
+  laid-append (r ∷ a) b t k =
+      let e : k + suc (length a) ≡ suc k + length a = omega arith in
+      rw e (laid-append a b _ (suc k))
 
--- one list of records after another
-overlay-append : (a b : List (List ℤ)) (t : List ℤ) (k : ℕ) → overlay (overlay t k a) (k + length a) b ≡ overlay t k (a ++ b)
-unfolding laid
-overlay-append [] b t k = ap (λ (j : ℕ). overlay t j b) (add-zero k)
-overlay-append (r ∷ a) b t k =
-    let e : k + suc (length a) ≡ suc k + length a = omega arith in
-    rw e (overlay-append a b _ (suc k))
+  -- one after another is all of them in order
+  written-all : (f : ℕ → List (List ℤ)) (t : List A) (k : ℕ) (ps : List ℕ) → writtenOver d f t k ps ≡ laid d t k (inOrder f ps)
+  unfolding laid
+  written-all f t k [] = refl
+  written-all f t k (p ∷ ps) = written-all f (laid d t k (f p)) (k + length (f p)) ps ∙ laid-append (f p) (inOrder f ps) t k
 
--- one after another is all of them in order
-written-all : (f : ℕ → List (List ℤ)) (t : List ℤ) (k : ℕ) (ps : List ℕ) → written f t k ps ≡ overlay t k (inOrder f ps)
-unfolding laid
-written-all f t k [] = refl
-written-all f t k (p ∷ ps) = written-all f (overlay t k (f p)) (k + length (f p)) ps ∙ overlay-append (f p) (inOrder f ps) t k
-
-module _ (s : List ℕ) (t : List ℤ) (h : length s ≤ 4096) where
-  -- where every part is accepted and the table holds all their records, the sheet is accepted
-  pub calls-if : Every (λ p. partReading s p t .0 .number ≡ 0) (places s) → total (λ p. partReading s p t .0 .records) (places s) ≤ length t / 16 → sheetReading s t .0 .number ≡ 0
-  unfolding sheetReading partReading
-  calls-if = together s (length t) h .accepted
-
-  -- and only there
-  pub calls-only-if : sheetReading s t .0 .number ≡ 0 → Every (λ p. partReading s p t .0 .number ≡ 0) (places s) × (total (λ p. partReading s p t .0 .records) (places s) ≤ length t / 16)
-  unfolding sheetReading partReading
-  calls-only-if e = (together s (length t) h .every e, together s (length t) h .holds e)
-
-  -- with the parts' counts added
-  pub calls-counts : sheetReading s t .0 .number ≡ 0 →
-      (sheetReading s t .0 .records ≡ total (λ p. partReading s p t .0 .records) (places s)) × (sheetReading s t .0 .warnings ≡ total (λ p. partReading s p t .0 .warnings) (places s))
-  unfolding sheetReading partReading
-  calls-counts e = (together s (length t) h .counted e, together s (length t) h .warned e)
-
-  -- and the parts' records written over the table one after another
-  pub calls-table : sheetReading s t .0 .number ≡ 0 → sheetReading s t .1 ≡ written (λ p. partOf s p (length t) .1) t 0 (places s)
-  unfolding sheetReading
-  calls-table e = ap (overlay t 0) (together s (length t) h .made e) ∙ sym (written-all (λ p. partOf s p (length t) .1) t 0 (places s))
+  -- a sheet and its parts, called with a table that has room for n words
+  pub together-called : (s : List ℕ) (n : ℕ) (t : List A) → length s ≤ 4096 →
+      TogetherCalls d n t (writtenAs d t (sheetOf s n)) (λ p. writtenAs d t (partOf s p n)) (λ p. partOf s p n .1) (places s)
+  together-called s n t h =
+      let w = together s n h in
+      record {
+        accepted = w .accepted;
+        every = w .every;
+        holds = w .holds;
+        counted = w .counted;
+        warned = w .warned;
+        made = λ e. ap (laid d t 0) (w .made e) ∙ sym (written-all (λ p. partOf s p n .1) t 0 (places s));
+        parts = λ p. refl;
+      }
 
 -- ---- the places of all parts
-
--- the places of k calls at most that begin at p, each where the last one says that the next part is
-abbrev pub walk : (ℕ → PartAnswer) → ℕ → ℕ → List ℕ
-walk part zero p = []
-walk part (suc k) p = p ∷ (if part p .last then [] else walk part k (part p .next))
 
 -- from a part on, by the bytes that are left
 walk-from : (k : ℕ) (s : List ℕ) (p n : ℕ) → length s ≤ 4096 → begins s p ≡ true → length s < p + k → walk (λ q. partOf s q n .0) k p ≡ placesFrom s p
@@ -78,6 +61,5 @@ walk-from (suc k) s p n h b l = rw (places-next s p b) (go (decLt (partEnd s p) 
     go (no e) ih = rw (part-last s p n h b (omega arith), places-none s (suc (partEnd s p)) (omega arith))
 
 -- the calls that begin at 0 and go on where each says that the next part is, until one says that it was the last, read all parts of the sheet
-pub calls-places : (s : List ℕ) (t : List ℤ) → length s ≤ 4096 → walk (λ p. partReading s p t .0) (suc (length s)) 0 ≡ places s
-unfolding partReading
-calls-places s t h = walk-from (suc (length s)) s 0 (length t) h (sym (begins-first s 0 refl)) (omega arith) ∙ sym (places-all s)
+pub called-places : (s : List ℕ) (n : ℕ) → length s ≤ 4096 → walk (λ p. partOf s p n .0) (suc (length s)) 0 ≡ places s
+called-places s n h = walk-from (suc (length s)) s 0 n h (sym (begins-first s 0 refl)) (omega arith) ∙ sym (places-all s)

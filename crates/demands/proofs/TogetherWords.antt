@@ -13,7 +13,8 @@ use Rattle.sheet.specs.Sheets.{sheetOf, sheetReading}
 use Rattle.sheet.specs.Parts.{places}
 use Rattle.sheet.specs.PartReadings.{partOf, partReading}
 use Rattle.sheet.proofs.Readings.{Held, part-held, sheet-held}
-use Rattle.demands.proofs.Together.{inOrder, together}
+use Rattle.demands.specs.Together.{inOrder}
+use Rattle.demands.proofs.Together.{together}
 
 -- ---- the words of records
 

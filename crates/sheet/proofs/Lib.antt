@@ -8,6 +8,5 @@ pub mod Fills
 pub mod Turns
 pub mod Readings
 pub mod Noted
-pub mod Apart
 pub mod PartLaws
 pub mod Bounds

@@ -1,4 +1,6 @@
 -- Warnings: a pass of its own over a text that is accepted.
+-- It counts the names that the reading met: the reading takes the longest name where letters begin, and letters directly after a name or an item refuse the
+-- text; so outside quotes each run of letters in an accepted text is one name. This is a reason and not a proof (docs/DECISIONS.md, 41).
 use Prim.Native.Nat.{ℕ, _+_}
 use mathlib.Core.List.{List, [], _∷_}
 use mathlib.Core.Bool.{Bool, false, _&&_, _||_, not}

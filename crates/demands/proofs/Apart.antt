@@ -1,0 +1,54 @@
+-- No second answer meets the promise of a user's call, for each of the nine: two that meet it are one.
+use Prim.Native.Nat.{ℕ}
+use mathlib.Core.Bool.{Bool}
+use mathlib.Core.List.{List}
+use mathlib.Core.Path.{_≡_, sym, ap, _∙_}
+use lib.IntN.{ℤ}
+use Rattle.sheet.specs.Sheets.{sheetReading, sheetReadingBytes}
+use Rattle.sheet.specs.PartReadings.{partReading, partReadingBytes}
+use Rattle.sheet.specs.Notes.{Bytes, Part, notePart, numbersOf, noteOf}
+use Rattle.sheet.specs.declared.Answer.{Answer}
+use Rattle.sheet.specs.declared.PartAnswer.{PartAnswer}
+use Rattle.sheet.specs.declared.NotePart.{NotePart}
+use Rattle.entries.specs.Calls.{sheetCall, partCall, noteCall}
+
+-- what is the same as a third thing is the same
+one : {A : Type 0} {x y z : A} → x ≡ z → y ≡ z → x ≡ y
+one d e = d ∙ sym e
+
+-- read_sheet: the answer, and the table afterwards
+pub sheet-apart : (s : List ℕ) (t : List ℤ) {x y : Answer × List ℤ} → x ≡ sheetReading s t → y ≡ sheetReading s t → x ≡ y
+sheet-apart s t = one
+
+-- read_sheet_bytes
+pub sheet-bytes-apart : (s t : List ℕ) {x y : Answer × List ℕ} → x ≡ sheetReadingBytes s t → y ≡ sheetReadingBytes s t → x ≡ y
+sheet-bytes-apart s t = one
+
+-- read_part
+pub part-apart : (s : List ℕ) (p : ℕ) (t : List ℤ) {x y : PartAnswer × List ℤ} → x ≡ partReading s p t → y ≡ partReading s p t → x ≡ y
+part-apart s p t = one
+
+-- read_part_bytes
+pub part-bytes-apart : (s : List ℕ) (p : ℕ) (t : List ℕ) {x y : PartAnswer × List ℕ} → x ≡ partReadingBytes s p t → y ≡ partReadingBytes s p t → x ≡ y
+part-bytes-apart s p t = one
+
+-- note_part: each of its three numbers
+pub note-part-apart : (sheet note : ℕ) (a n : ℤ) {x y : NotePart} → numbersOf x ≡ notePart sheet note a n → numbersOf y ≡ notePart sheet note a n → x ≡ y
+note-part-apart sheet note a n d e = ap (λ (x : Bool × (ℕ × ℕ)). record { sheets = x .0; from = x .1 .0; to = x .1 .1 }) (one d e)
+
+-- note: where its bytes stand, and the bytes
+pub note-apart : (sheet note : Bytes) (a n : ℤ) {place place′ : ℕ × ℕ} {bytes bytes′ : List ℕ} →
+    Part (noteOf sheet note a n) place bytes → Part (noteOf sheet note a n) place′ bytes′ → (place ≡ place′) × (bytes ≡ bytes′)
+note-apart sheet note a n d e = (one (d .0) (e .0), one (d .1) (e .1))
+
+-- lorukinde_read_sheet: the numbers, and the table afterwards
+pub sheet-call-apart : (s t : List ℕ) {x y : List ℕ × List ℕ} → x ≡ sheetCall s t → y ≡ sheetCall s t → x ≡ y
+sheet-call-apart s t = one
+
+-- lorukinde_read_part
+pub part-call-apart : (s : List ℕ) (p : ℕ) (t : List ℕ) {x y : List ℕ × List ℕ} → x ≡ partCall s p t → y ≡ partCall s p t → x ≡ y
+part-call-apart s p t = one
+
+-- lorukinde_note: the numbers
+pub note-call-apart : (sheet note : ℕ) (a n : ℤ) {x y : List ℕ} → x ≡ noteCall sheet note a n → y ≡ noteCall sheet note a n → x ≡ y
+note-call-apart sheet note a n = one

@@ -1,0 +1,25 @@
+-- Demand 3, "each part's number, place, records and warnings are demand 2's for that part alone, places counted from the sheet's start":
+-- in a sheet within 4,096 bytes, the part that begins at p is answered as its bytes alone are answered by the sheet reading, with each place moved by p;
+-- the next part's place, and whether there is one, are those of the sheet.
+use Prim.Native.Nat.{ℕ, _-_}
+use mathlib.Core.List.{List}
+use lib.IntN.{ℤ}
+use lib.ListN.{take, drop}
+use Rattle.sheet.specs.Parts.{partEnd}
+use Rattle.sheet.specs.Sheets.{sheetOf}
+use Rattle.sheet.specs.PartReadings.{withNext}
+use Rattle.sheet.specs.declared.Answer.{Answer}
+use Rattle.sheet.specs.declared.PartAnswer.{PartAnswer}
+use Rattle.demands.specs.Moved.{movedReading}
+
+-- the bytes of the part that begins at p
+abbrev pub partBytes : List ℕ → ℕ → List ℕ
+partBytes s p = take (partEnd s p - p) (drop p s)
+
+-- the answer and the records of those bytes alone, read as a sheet, with their places counted from the start of s
+abbrev pub readAlone : List ℕ → ℕ → ℕ → Answer × List (List ℤ)
+readAlone s p n = movedReading p (sheetOf (partBytes s p) n)
+
+-- what the part then comes to
+abbrev pub partAlone : List ℕ → ℕ → ℕ → PartAnswer × List (List ℤ)
+partAlone s p n = (withNext s (partEnd s p) (readAlone s p n .0), readAlone s p n .1)
