@@ -15,7 +15,7 @@ use Rattle.names.proofs.Local.{compare-add}
 use Rattle.sheet.specs.Parts.{begins, partEnd}
 use Rattle.sheet.specs.Sheets.{textOf}
 use Rattle.sheet.specs.PartReadings.{partAnswerOf, withNext, partOf}
-use Rattle.demands.specs.Moved.{is, movedRecord, movedReading, movedPart}
+use Rattle.demands.specs.Moved.{is, movedRecord, movedReading, movedNext, movedPart}
 use Rattle.sheet.specs.declared.Answer.{Answer}
 use Rattle.sheet.specs.declared.PartAnswer.{PartAnswer}
 use Rattle.demands.proofs.TextMoves.{text-move}
@@ -46,9 +46,14 @@ place-twice : (d e : ℕ) (stays : Bool) (p : ℕ) → (if stays then (if stays 
 place-twice d e true p = refl
 place-twice d e false p = omega arith
 
+-- of a next part's place
+next-twice : (d e : ℕ) (last : Bool) (n : ℕ) → movedNext d last (movedNext e last n) ≡ movedNext (d + e) last n
+next-twice d e true n = omega arith
+next-twice d e false n = omega arith
+
 -- of a part's answer and records
 pub part-twice : (d e : ℕ) (r : PartAnswer × List (List ℤ)) → movedPart d (movedPart e r) ≡ movedPart (d + e) r
-part-twice d e r = rw (records-twice d e (r .1), place-twice d e (eqb (r .0 .number) 0) (r .0 .place), place-twice d e (r .0 .last) (r .0 .next))
+part-twice d e r = rw (records-twice d e (r .1), place-twice d e (eqb (r .0 .number) 0) (r .0 .place), next-twice d e (r .0 .last) (r .0 .next))
 
 -- ---- a move by 0 is none
 
@@ -71,9 +76,14 @@ place-still : (stays : Bool) (p : ℕ) → (if stays then p else 0 + p) ≡ p
 place-still true p = refl
 place-still false p = zero-add p
 
+-- of a next part's place
+next-still : (last : Bool) (n : ℕ) → movedNext 0 last n ≡ n
+next-still true n = omega arith
+next-still false n = omega arith
+
 -- of a part's answer and records
 pub part-still : (r : PartAnswer × List (List ℤ)) → movedPart 0 r ≡ r
-part-still r = rw (records-still (r .1), place-still (eqb (r .0 .number) 0) (r .0 .place), place-still (r .0 .last) (r .0 .next))
+part-still r = rw (records-still (r .1), place-still (eqb (r .0 .number) 0) (r .0 .place), next-still (r .0 .last) (r .0 .next))
 
 -- ---- a part behind u
 
