@@ -32,25 +32,29 @@ extern "C" {
 #define LORUKINDE_RECORD_BYTES 64
 #define LORUKINDE_SHEET_BYTES 4096
 
-/* What a reading returns, and the place that it stores. */
+/* What a reading returns, and the place that it stores. "Read so far" is the place after the item, comma, colon, `week`, `24/7`,
+ * modifier word or comment of the rule that was completed last, and after its blanks; if there is none, where the rule begins.
+ * A rule begins where the blanks before it end, an item with its year if it has one, a week with its number. */
 enum {
     LORUKINDE_ACCEPTED = 0,       /* accepted; 0 */
     LORUKINDE_TOO_LONG = 1,       /* over 4,096 bytes; 0 */
     LORUKINDE_NO_PART = 2,        /* the given place is no part's beginning; 0 */
-    LORUKINDE_NO_SHAPE = 3,       /* no shape fits; the rule's place */
-    LORUKINDE_RANGE = 4,          /* number out of range; the rule's place */
-    LORUKINDE_WEEK_STEP = 5,      /* week step above 255; the rule's place */
-    LORUKINDE_YEARS_INVERTED = 6, /* years inverted; the rule's place */
-    LORUKINDE_WEEKS_INVERTED = 7, /* weeks inverted; the rule's place */
-    LORUKINDE_POINT_IN_TIME = 8,  /* point in time; the rule's place */
-    LORUKINDE_EASTER_DAY = 9,     /* bare day after easter; the rule's place */
-    LORUKINDE_NO_ROOM = 10        /* all else good, more records than whole 64-byte groups in the table; the text's first byte */
+    LORUKINDE_NO_SHAPE = 3,       /* no shape fits, and neither 11 nor 12 is the case; read so far */
+    LORUKINDE_RANGE = 4,          /* number out of range; the item's first byte */
+    LORUKINDE_WEEK_STEP = 5,      /* week step above 255; the item's first byte */
+    LORUKINDE_YEARS_INVERTED = 6, /* years inverted; the item's first byte */
+    LORUKINDE_WEEKS_INVERTED = 7, /* weeks inverted; the item's first byte */
+    LORUKINDE_POINT_IN_TIME = 8,  /* point in time; the item's first byte */
+    LORUKINDE_EASTER_DAY = 9,     /* bare day after easter; the item's first byte */
+    LORUKINDE_NO_ROOM = 10,       /* all else good, more records than whole 64-byte groups in the table; the text's first byte */
+    LORUKINDE_EMPTY_RULE = 11,    /* no shape fits: an empty rule; where it begins */
+    LORUKINDE_BROKEN_QUOTE = 12   /* no shape fits: a quote, and after it another one or none at all; read so far */
 };
 
 /* Reads a sheet. The number is returned; place, records and warnings are stored.
  * The numbers are those of the reading of the sheet with a table of table_len / 64 records. The table afterwards is the table
  * before with the records written over it from its first byte on, 64 bytes each: every other byte is unchanged.
- * Every refusal (1, 3 to 10) gives 0 records and 0 warnings and changes no byte of the table. */
+ * Every refusal (1, 3 to 12) gives 0 records and 0 warnings and changes no byte of the table. */
 uint32_t lorukinde_read_sheet(const uint8_t *sheet, size_t sheet_len, uint8_t *table, size_t table_len, uint32_t *place,
                               uint32_t *records, uint32_t *warnings);
 

@@ -1,13 +1,19 @@
 #!/usr/bin/env python3
-"""Holds the second reader to what the documents say in words: document 01's sheets, and the words and places that the readings (03, and section 8 of 04) name beside an answer.
+"""Holds the second reader to what the documents say: document 01's sheets, the words and places that the readings (03, and section 8 of 04) name beside an answer,
+and the cases of document 04 for the Asks in force, which stand in tools/readings_04.txt.
 
-    check_documents.py [DOCUMENT-01]    writes each that is read otherwise, and how many there are; with the document, also each sheet of its list that is missing here.
+    check_documents.py [DOCUMENT-01 [DOCUMENT-04]]     writes each that is read otherwise, and how many there are; with the documents, also each of their cases that is missing here.
+    check_documents.py take DOCUMENT-04                writes document 04's cases as tools/readings_04.txt has them: section, Ask and call, sheet, answer, parted by byte 9.
 """
+import os
 import re
 import sys
 
 from reference import bytes_of, chain, read_part, read_sheet
 
+IN_FORCE = {1, 8}
+CHANGES = (1, 3, 7, 8, 9, 12)  # the Asks after which a sheet or a part is read otherwise
+WORDS = 8192
 NO = [0] * 16
 # sheet: (number, place), or {(record, word): value}
 DOCUMENT_01 = {
@@ -20,13 +26,13 @@ DOCUMENT_01 = {
     "10:00-12:00/24:00": (4, 0),
     "Fr[3-1]": {(1, 4): 31, (1, 5): 31},
     "Fr[3-1,2]": {(1, 4): 2, (1, 5): 0},
-    "week 5-1/256": (5, 0),
-    "week 5-1/255": (7, 0),
+    "week 5-1/256": (5, 5),  # by Ask 1: the number's place
+    "week 5-1/255": (7, 5),
     "2021-2020": (6, 0),
     "2020-2022/2": {(1, 3): 2},
     "2020-2022/3": {(1, 3): 1},
-    "": (3, 0),
-    "Mo;; Tu": (3, 3),
+    "": (11, 0),  # by Ask 1, as the next
+    "Mo;; Tu": (11, 3),
     "Mo,Tu": {(0, 5): 2, (1, 0): 6, (2, 0): 6},
     "Mo, Tu": {(0, 5): 1, (2, 0): 1, (2, 1): 1},
     "1899": (4, 0),
@@ -87,14 +93,14 @@ READINGS = {
 # sheet, place, words: number, place, records, next, last
 PARTS = {
     ("Mo;; Tu", 0, 512): (0, 0, 2, 3, 0),
-    ("Mo;; Tu", 3, 512): (3, 3, 0, 4, 0),
+    ("Mo;; Tu", 3, 512): (11, 3, 0, 4, 0),
     ("Mo;; Tu", 4, 512): (0, 0, 2, 0, 1),
     ("Mo; Tu", 4, 512): (2, 0, 0, 0, 1),
     ("Mo; Tu", 6, 512): (2, 0, 0, 0, 1),
-    ("Mo;", 3, 512): (3, 3, 0, 0, 1),
+    ("Mo;", 3, 512): (11, 3, 0, 0, 1),
     ("Mo; Tu", 3, 31): (10, 3, 0, 0, 1),
     ("Mo, 10:00;Tu", 0, 512): (8, 4, 0, 10, 0),
-    ("Mo \"a\\x01;b\"; Tu", 0, 512): (3, 0, 0, 10, 0),
+    ("Mo \"a\\x01;b\"; Tu", 0, 512): (3, 3, 0, 10, 0),
     ("Mo \"a\\x01;b\"; Tu", 10, 512): (0, 0, 2, 0, 1),
     ("Mo\";Tu", 4, 512): (2, 0, 0, 0, 1),
     ("Mo \"a;Tu", 6, 512): (2, 0, 0, 0, 1),
@@ -104,10 +110,42 @@ PARTS = {
 }
 SHEETS = {("Mo;Tu", 32): (10, 0), ("Mo;Tu", 63): (10, 0), ("Mo;Tu", 64): (0, 0), ("Mo", 47): (0, 0), ("Mo;x", 0): (3, 3), ("Mo" + " " * 4094, 32): (0, 0)}
 
+SECTION = re.compile(r"\*\*(\d+\.\d+) ")
+CASE = re.compile(r"- \[(\d+)( part)?\] `(.*?)`(?: at (\d+))? → \*\*(.*?)\*\*")
+
+
+def taken(path):
+    """the cases of document 04 for the Asks in force: section, Ask and call, sheet, answer"""
+    section = ""
+    for line in open(path, encoding="utf-8"):
+        section = m.group(1) if (m := SECTION.match(line)) else section
+        m = CASE.match(line)
+        if m and {n for n in CHANGES if n <= int(m.group(1))} <= IN_FORCE:
+            ask, part, sheet, place, answer = m.groups(default="")
+            yield section, f"{ask}{part} {place}".strip(), sheet, answer.strip()
+
+
+def readings_04():
+    path = os.path.join(os.path.dirname(os.path.abspath(__file__)), "readings_04.txt")
+    return [tuple(line.split("\t")) for line in open(path, encoding="utf-8").read().split("\n")[1:-1]]
+
+
+def said(call, s):
+    """a reading, as document 04 writes it"""
+    if "part" in call:
+        number, place, records, warned, follows, last = read_part(s, int(call.split()[-1]), WORDS)
+        return f"{number} {place} {len(records)} {warned} {follows} {'last' if last else 'more'}"
+    number, place, records, warned = read_sheet(s, WORDS)
+    return f"{number} {place} {len(records)} {warned}"
+
 
 def wrong():
+    for section, call, text, want in readings_04():
+        got = said(call, bytes_of(text.encode()))
+        if got != want:
+            yield f"{section} [{call}] {text}", want, got
     for text, want in (DOCUMENT_01 | READINGS).items():
-        number, place, records, _ = read_sheet(bytes_of(text.encode()), 8192)
+        number, place, records, _ = read_sheet(bytes_of(text.encode()), WORDS)
         if isinstance(want, tuple):
             if (number, place) != want:
                 yield text, want, (number, place)
@@ -125,21 +163,30 @@ def wrong():
         yield 'Mo; "a"', 5, comment
 
 
-def missing(path):
+def missing_01(path):
     text = open(path).read().split("## Sheets to try")[1].split("\n## ")[0]
     for name in re.findall(r"`([^`]+)`", text):
         if name not in DOCUMENT_01 and "2020-2022" + name not in DOCUMENT_01:
             yield name
 
 
+def missing_04(path):
+    return sorted(set(taken(path)) - set(readings_04()))
+
+
 def main():
+    if sys.argv[1:2] == ["take"]:
+        print("# cases of document 04 for the Asks in force: tools/check_documents.py take")
+        for case in taken(sys.argv[2]):
+            print("\t".join(case))
+        return
     found = list(wrong())
     for text, want, got in found:
         print(f"{text}: {want}, not {got}")
-    for path in sys.argv[1:]:
+    for path, missing in zip(sys.argv[1:], (missing_01, missing_04)):
         for name in missing(path):
             print(f"not looked at: {name}")
-    print(f"{len(DOCUMENT_01) + len(READINGS) + len(PARTS) + len(SHEETS) + 1} looked at, {len(found)} read otherwise")
+    print(f"{len(readings_04()) + len(DOCUMENT_01) + len(READINGS) + len(PARTS) + len(SHEETS) + 1} looked at, {len(found)} read otherwise")
 
 
 if __name__ == "__main__":

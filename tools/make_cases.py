@@ -1,11 +1,11 @@
 #!/usr/bin/env python3
-"""Writes the cases of crates/cases: the sheets of tools/documents.txt and tools/specification.txt, the systematic ones made here, and tools/oracle/sample.txt.
+"""Writes the cases of crates/cases: the sheets of tools/documents.txt, tools/readings_04.txt and tools/specification.txt, the systematic ones made here, and tools/oracle/sample.txt.
 
     python3 tools/make_cases.py > crates/cases/stdin
     python3 tools/oracle/replay.py crates/cases/stdin > crates/cases/stdout      at most 1 MiB, where rt cuts what a program writes
     python3 tools/make_cases.py count         how many of each origin
 
-documents.txt has the sheets of the rules and of their readings, specification.txt examples of the OpenStreetMap wiki's pages on opening hours, as far as they are remembered, sample.txt sheets whose answers are
+documents.txt has the sheets of the rules and of their readings, readings_04.txt those of document 04 (its form: check_documents.py), specification.txt examples of the OpenStreetMap wiki's pages on opening hours, as far as they are remembered, sample.txt sheets whose answers are
 the Rust's own (tools/oracle/README.md).
 A case's form is in reference.py, `case`. A line cannot hold byte 10 (three sheets of the readings have it, and are left out); every other byte stands in some sheet.
 """
@@ -25,6 +25,11 @@ def line(sheet, mode="S", words=WORDS, part=" "):
 def sheets_of(name):
     text = open(os.path.join(TOOLS, name)).read()
     return [line(s, "A") for s in text.split("\n")[:-1]]
+
+
+def readings_04():
+    text = open(os.path.join(TOOLS, "readings_04.txt")).read()
+    return [line(x.split("\t")[2], "A") for x in text.split("\n")[1:-1]]
 
 
 # ---- every piece behind every piece
@@ -129,6 +134,22 @@ def refusals():
     return out
 
 
+# one rule of every thing that can be completed, and sheets of several rules
+COMPLETED = ['2020-2021/2,2023+ 2024 Jan 5-Feb Mo[-1] +1 day,Mar-Apr week 3-5/1,7: Mo[1,2-3],PH -1 day 10:00-12:00/0:30,(sunset-1:00)+ off "c"', '"d": SH,Tu-Th sunrise-26:00 unknown', '24/7 closed "e"', 'easter-Mo: We']
+JOINED = [' Mo ; "a";24/7', "Jan 1+  ,  off  ||  Tu", 'Mo, "b": Fr 10:00+ open "c" ||PH']
+
+
+def slips():
+    """a rule that ends, or goes on wrongly, at each of its places: its number, and its place"""
+    out = [s[:i] + slip for s in COMPLETED for i in range(len(s)) for slip in ("", "x", '"')]
+    out += [s[:i] + slip + s[i:] for s in JOINED for i in range(len(s) + 1) for slip in ("x", '"', '""', ";", ",", "1899 ")]
+    out += [f"{a}{blank}{b}" for a in ("Mo", "Mo,Tu", "week", "week 1", "24/7", "Jan:", "off", '"c"', '"c":', "10:00-12:00", "Mo, ") for blank in ("", " ", "   ") for b in ("", ".", "x", '""', '"a', '"\\x01"', "Mo", ",Mo", "|", ":")]
+    items = ["1899", "2020-1899", "1899 Jan", "Jan 32", "2020 Jan 5-32", "week 60", "week  1-5/256", "week 1,5-1", "2021-2020", "10:60+", "(sunset+25:00)+", "10:00", "(dawn-1:00)", "easter-05", "2020 easter-5", "Mo[6]", "PH +40000 days"]
+    out += [before + item for item in items for before in ("", "  ", "Mo;  ", "off, ")]
+    out += [a + b for a, b in [("2020,", "1899"), ("2020 2021 Jan,", "1899 Jan"), ("Jan,", "Jan 32"), ("week 1,2-3,", "54"), ("Mo,PH,", "SH +40000 days"), ("Mo-Tu,", "We[0]"), ("2020 Jan: ", "Mo[6]"), ('"c": ', "10:60+"), ("Mo 10:00-12:00,", "10:00"), ("Mo,", "10:00")]]
+    return [line(s) for s in out]
+
+
 def tables():
     """tables of 0 words and more against sheets of 1 record and more"""
     sizes = [0, 1, 15, 16, 17, 31, 32, 33, 47, 48, 63, 64, 80, 512]
@@ -202,8 +223,8 @@ def sample():
 
 
 ORIGINS = {
-    "documents": lambda: sheets_of("documents.txt"), "specification": lambda: sheets_of("specification.txt"),
-    "transitions": transitions, "joints": joints, "order of pieces": triples, "ranges": ranges, "orders": orders, "bare days": bare_days, "marks": marks, "names": names, "refusals": refusals,
+    "documents": lambda: sheets_of("documents.txt"), "readings": readings_04, "specification": lambda: sheets_of("specification.txt"),
+    "transitions": transitions, "joints": joints, "order of pieces": triples, "ranges": ranges, "orders": orders, "bare days": bare_days, "marks": marks, "names": names, "refusals": refusals, "slips": slips,
     "tables": tables, "blanks": blanks, "odd bytes": odd_bytes, "quotes": quotes, "long sheets": long_sheets, "exchanges": exchanges, "notes": notes,
     "the Rust's answers": sample,
 }

@@ -5,7 +5,8 @@
                                 Writes the line, a tab, and what reading an item of that kind at the text's start gives.
     reference.py sheets FILE    each line a sheet (\\xNN for one byte): writes its answer and records.
     reference.py cases FILE     each line a case of crates/cases (its form: see `case`): writes what the program is to write.
-    reference.py readings FILE  a document whose lines show a sheet and its answer, - `sheet` → **n p r w**: writes those that are read otherwise.
+    reference.py readings FILE  document 03, whose lines show a sheet and its answer, - `sheet` → **n p r w**: writes those that are read otherwise. Of a
+                                refusal from 3 to 9 the place is not asked, and 11 and 12 count as 3, since Ask 1 has changed these.
 
 Shapes are regular expressions over bytes: every shape is tried and the longest that stands complete is taken. Needs Python 3.11.
 """
@@ -70,7 +71,7 @@ SHAPES = {k: [re.compile(p) for p in ps] for k, ps in SHAPES.items()}
 
 
 class Refused(Exception):
-    pass
+    """a refusal's number; `item` adds its place"""
 
 
 def need(number, good):
@@ -214,7 +215,7 @@ def meaning(kind, g):
 
 
 def item(kind, s, i):
-    """(words, place after) of an item of this kind at place i, or None; raises Refused"""
+    """(words, place after) of an item of this kind at place i, or None; raises Refused with its number and i"""
     best = None
     for shape in SHAPES[kind]:
         m = shape.match(s, i)
@@ -222,7 +223,10 @@ def item(kind, s, i):
             best = m
     if best is None:
         return None
-    words = meaning(kind, best.groupdict())
+    try:
+        words = meaning(kind, best.groupdict())
+    except Refused as r:
+        raise Refused(*r.args, i) from None
     return words + [0] * (16 - len(words)), best.end()
 
 
@@ -238,7 +242,11 @@ def skip(s, i):
 
 
 class NoShape(Exception):
-    pass
+    """nothing that may follow stands at this place: the first byte after what was completed last, and its blanks"""
+
+
+def no_shape_after(s, i):
+    return NoShape(skip(s, i))
 
 
 def modifier(s, i):
@@ -256,7 +264,7 @@ def modifier(s, i):
 
 
 def listed(kind, s, i, out):
-    """the rest of a list of this kind behind an item that ends at i"""
+    """the rest of a list of this kind after an item that ends at i"""
     kinds = {6: (6, 7), 7: (7, 6)}.get(kind, (kind,))
     while s[i:i + 1] == b"," and s[i + 1:i + 2] != b" ":
         for n, k in enumerate(kinds):
@@ -265,7 +273,7 @@ def listed(kind, s, i, out):
                 kinds = kinds[n:]
                 break
         else:
-            raise NoShape
+            raise no_shape_after(s, i + 1)
         out.append(r[0])
         i = r[1]
     return i
@@ -280,7 +288,7 @@ def first_of(s, i, kinds, out):
             j = skip(s, i + 4)
             r = item(5, s, j) if j > i + 4 else None
             if not r:
-                raise NoShape
+                raise no_shape_after(s, i + 4)
         else:
             r = item(k, s, i)
         if r:
@@ -309,7 +317,7 @@ def rule(s, i):
             if got is None:
                 m = modifier(s, i)
                 if m is None:
-                    raise NoShape
+                    raise NoShape(i)
                 return m[0], m[1], m[2], out, m[3]
             more, i = following(s, got, out)
     while more:
@@ -328,51 +336,64 @@ def rule(s, i):
 
 
 def colon(s, i, out):
-    """behind `:` a blank and a small part have to stand"""
+    """after `:` a blank and a small part have to stand"""
     j = skip(s, i + 1)
     got = first_of(s, j, SMALL, out) if j > i + 1 else None
     if got is None:
-        raise NoShape
+        raise no_shape_after(s, i + 1)
     return got
 
 
 def following(s, got, out):
-    """the kinds that may stand behind a blank after this list, and the place"""
+    """the kinds that may stand after a blank after this list, and the place"""
     kind, i = got
     if kind in WIDE and s[i:i + 1] == b":":
         kind, i = colon(s, i, out)
     return {2: (3, 5, 6, 7, 8), 3: (5, 6, 7, 8), 5: (6, 7, 8), 6: (8,), 7: (8,), 8: ()}[kind], i
 
 
-def sheet(s, room=512):
-    """(number, place, records): the records of a text, or its refusal"""
-    if len(s) > 4096:
-        return 1, 0, []
+SEPARATOR = re.compile(rb";|,(?= )|\|\|")
+SEPARATORS = {b";": 0, b",": 1, b"||": 2}
+NO_SHAPE = (3, 11, 12)
+
+
+def no_shape(s, rule, i):
+    """the number for a rule where no shape fits at i: 11 an empty rule, 12 a quote that opens no comment, 3 the rest"""
+    if i == rule and (i == len(s) or SEPARATOR.match(s, i)):
+        return 11
+    if s[i:i + 1] == b'"' and (s[i + 1:i + 2] == b'"' or b'"' not in s[i + 1:]):
+        return 12
+    return 3
+
+
+def rules_of(s):
+    """the records of all rules of a text; raises Refused with its number and place"""
     records, i, separator = [], 0, 0
     while True:
         place = i = skip(s, i)
         try:
             state, start, length, items, i = rule(s, i)
-        except Refused as r:
-            return r.args[0], place, []
-        except NoShape:
-            return 3, place, []
-        records.append([1, separator, state, start, length, len(items)] + [0] * 10)
-        records += items
-        i = skip(s, i)
-        if i == len(s):
-            break
-        if s[i:i + 1] == b";":
-            separator, i = 0, i + 1
-        elif s[i:i + 2] == b", ":
-            separator, i = 1, i + 1
-        elif s[i:i + 2] == b"||":
-            separator, i = 2, i + 2
-        else:
-            return 3, place, []
-    if len(records) > room:
-        return 10, 0, []
-    return 0, 0, records
+            records += [[1, separator, state, start, length, len(items)] + [0] * 10] + items
+            i = skip(s, i)
+            if i == len(s):
+                return records
+            m = SEPARATOR.match(s, i)
+            if not m:
+                raise NoShape(i)
+        except NoShape as r:
+            raise Refused(no_shape(s, place, *r.args), *r.args) from None
+        separator, i = SEPARATORS[m.group()], m.end()
+
+
+def sheet(s, room=512):
+    """(number, place, records): the records of a text, or its refusal"""
+    if len(s) > 4096:
+        return 1, 0, []
+    try:
+        records = rules_of(s)
+    except Refused as r:
+        return *r.args, []
+    return (10, 0, []) if len(records) > room else (0, 0, records)
 
 
 WORDS = re.compile(rb"[A-Za-z]+")
@@ -459,7 +480,7 @@ def part_lines(s, words):
 
 
 def place_lines(s, words):
-    """the places, from 0 to one behind the end, where a part begins"""
+    """the places, from 0 to one after the end, where a part begins"""
     return [" ".join(["B"] + [str(p) for p in range(len(s) + 2) if read_part(s, p, words)[0] != 2])]
 
 
@@ -528,9 +549,18 @@ def item_line(raw):
 READING = re.compile(rb"- `(.*?)` \xe2\x86\x92 \*\*(\d+ \d+ \d+ \d+)\*\*")
 
 
+def as_before(number, place, *rest):
+    """an answer as far as Ask 1 has left it as it was"""
+    return (3, *rest) if number in NO_SHAPE else (number, *rest) if number in range(4, 10) else (number, place, *rest)
+
+
 def other_readings(lines):
     found = [m for m in map(READING.match, lines) if m]
-    other = [m for m in found if shown(read_sheet(bytes_of(m.group(1)), 8192))[0].encode() != m.group(2)]
+
+    def said(sheet):
+        number, place, records, warned = read_sheet(bytes_of(sheet), 8192)
+        return as_before(number, place, len(records), warned)
+    other = [m for m in found if said(m.group(1)) != as_before(*map(int, m.group(2).split()))]
     return [m.group() for m in other] + [b"%d sheets, %d read otherwise" % (len(found), len(other))]
 
 

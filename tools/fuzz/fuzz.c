@@ -126,7 +126,8 @@ struct answer {
     const uint8_t *table;
 };
 
-static uint64_t calls, sheet_numbers[11], part_numbers[11], notes[2], records_seen, warnings_seen;
+enum { ANSWERS = LORUKINDE_BROKEN_QUOTE + 1 };
+static uint64_t calls, sheet_numbers[ANSWERS], part_numbers[ANSWERS], notes[2], records_seen, warnings_seen;
 
 static int32_t word(const uint8_t *record, int i)
 {
@@ -219,22 +220,70 @@ static bool head(const uint8_t *r, bool first, const uint8_t *s, size_t begin, s
     return good;
 }
 
+static bool one_of(uint8_t b, const char *some)
+{
+    return b && strchr(some, b);
+}
+
+/* whether only blanks stand between i and the text's beginning or a separator */
+static bool rule_begins(const uint8_t *s, size_t begin, size_t i)
+{
+    size_t blanks = i;
+    while (blanks > begin && s[blanks - 1] == ' ')
+        blanks--;
+    return blanks == begin || one_of(s[blanks - 1], ";|") || (s[blanks - 1] == ',' && blanks < i);
+}
+
+/* whether the text's end or a separator stands at i */
+static bool rule_ends(const uint8_t *s, size_t end, size_t i)
+{
+    uint8_t next = i + 1 < end ? s[i + 1] : 0;
+    return i == end || s[i] == ';' || (s[i] == ',' && next == ' ') || (s[i] == '|' && next == '|');
+}
+
+/* whether a quote stands at i, and after it another one or none at all */
+static bool broken_quote(const uint8_t *s, size_t end, size_t i)
+{
+    return i < end && s[i] == '"' && (!memchr(s + i + 1, '"', end - i - 1) || s[i + 1] == '"');
+}
+
+/* whether an item can begin at i */
+static bool item_begins(const uint8_t *s, size_t begin, size_t end, size_t i)
+{
+    static const char first[] = "(0123456789ABCDEFGHIJKLMNOPQRSTUVWXYZabcdefghijklmnopqrstuvwxyz";
+    return i < end && one_of(s[i], first) && (i == begin || one_of(s[i - 1], " ;,|"));
+}
+
+/* the number where no shape fits at i */
+static uint32_t no_shape(const uint8_t *s, size_t begin, size_t end, size_t i)
+{
+    if (rule_begins(s, begin, i) && rule_ends(s, end, i))
+        return LORUKINDE_EMPTY_RULE;
+    return broken_quote(s, end, i) ? LORUKINDE_BROKEN_QUOTE : LORUKINDE_NO_SHAPE;
+}
+
+/* the place of a refusal, as far as the text from `begin` to `end` of s tells it */
+static bool place_good(uint32_t number, size_t place, const uint8_t *s, size_t begin, size_t end)
+{
+    switch (number) {
+    case LORUKINDE_TOO_LONG:
+    case LORUKINDE_NO_PART: return place == 0;
+    case LORUKINDE_NO_ROOM: return place == begin;
+    case LORUKINDE_NO_SHAPE:
+    case LORUKINDE_EMPTY_RULE:
+    case LORUKINDE_BROKEN_QUOTE: return (place == end || s[place] != ' ') && number == no_shape(s, begin, end, place);
+    default: return item_begins(s, begin, end, place);
+    }
+}
+
 /* the answer for the text from `begin` to `end` of s */
 static void answer_good(const struct answer *a, const uint8_t *s, size_t begin, size_t end, size_t table_bytes)
 {
-    need(a->number <= 10, "a number above 10");
-    need(a->place <= end, "a place behind the text");
+    need(a->number < ANSWERS, "a number that there is not");
     if (a->number) {
         need(a->records == 0 && a->warnings == 0, "a refusal with records or warnings");
-        if (a->number >= 3 && a->number <= 9) { /* the place where the blanks before a rule end */
-            size_t i = a->place;
-            need(i >= begin && (i == end || s[i] != ' '), "a refusal's place is a blank, or lies before the text");
-            while (i > begin && s[i - 1] == ' ')
-                i--;
-            need(i == begin || s[i - 1] == ';' || s[i - 1] == ',' || s[i - 1] == '|', "a refusal's place is no rule's");
-        } else {
-            need(a->place == (a->number == 10 ? begin : 0), "1 and 2 have the place 0, 10 the text's first byte");
-        }
+        need(a->place <= end && (a->place >= begin || a->number <= LORUKINDE_NO_PART), "a refusal's place is not in the text");
+        need(place_good(a->number, a->place, s, begin, end), "nothing at a refusal's place that can have its number");
         return;
     }
     need(a->place == 0 && a->records >= 1 && (size_t)a->records * 64 <= table_bytes, "an accepted text's numbers");
@@ -272,7 +321,7 @@ static struct answer read_sheet(const uint8_t *s, size_t n, size_t table_bytes)
     for (int i = 0; i < 3; i++)
         number_kept(&number_rooms[i], 4);
     a.place = *p[0], a.records = *p[1], a.warnings = *p[2], a.table = table;
-    need(a.number != 2 && a.number <= 10, "a sheet's number");
+    need(a.number != LORUKINDE_NO_PART, "a sheet's number");
     need((a.number == 1) == (n > MOST), "1 is for over 4,096 bytes");
     table_kept(table_bytes, &a);
     answer_good(&a, s, 0, n, table_bytes);
@@ -294,7 +343,6 @@ static struct answer read_part(const uint8_t *s, size_t n, size_t begin, size_t 
     for (int i = 0; i < NUMBERS; i++)
         number_kept(&number_rooms[i], 4);
     a.place = *p[0], a.records = *p[1], a.warnings = *p[2], a.next = *p[3], a.last = *p[4], a.table = table;
-    need(a.number <= 10, "a part's number");
     need((a.number == 1) == (n > MOST), "1 is for over 4,096 bytes");
     need((a.number == 2) == (n <= MOST && end > n), "2 is for a place where no part begins");
     table_kept(table_bytes, &a);
@@ -766,8 +814,8 @@ int main(int argc, char **argv)
     for (; calls < wanted; rounds++)
         round_of_calls();
     printf("seed %s, each buffer's %s at an unreadable page: %llu sheets, %llu calls, nothing wrong\n", argv[1], argv[3], (unsigned long long)rounds, (unsigned long long)calls);
-    counts("read_sheet, by number", sheet_numbers, 11);
-    counts("read_part, by number", part_numbers, 11);
+    counts("read_sheet, by number", sheet_numbers, ANSWERS);
+    counts("read_part, by number", part_numbers, ANSWERS);
     counts("note, out of the standing note (0) or the sheet (1)", notes, 2);
     printf("records looked at: %llu; warnings: %llu\n", (unsigned long long)records_seen, (unsigned long long)warnings_seen);
     return 0;

@@ -144,6 +144,8 @@ def with_ends(s, records, reader, other):
 def expected(s, ours, digits, listed):
     """what the Rust is to answer, and its warnings, from our answer; names the listed differences on the way"""
     number, records, warnings = ours
+    if number in plain.NO_SHAPE:  # the Rust has one number for all of these, and no place
+        return 3, 0
     if number == 10:  # the Rust has no table
         number, records, warnings = more_room(plain, s)
         if len(records) > 512:
@@ -153,10 +155,10 @@ def expected(s, ours, digits, listed):
         if rusts != records:
             listed.append("a bare end day that the month lacks")
         return as_rust(s, rusts, listed), warnings
-    if number > 3 and shapes_only.sheet(s)[0] == 3:  # the Rust asks for all shapes first
+    if shapes_only.sheet(s)[0] in plain.NO_SHAPE:  # the Rust asks for all shapes first
         listed.append("shapes first")
         return 3, 0
-    if number > 3 and not digits and grammar_only.sheet(s)[0] in (3, 4):  # in the oracle's grammar a number out of range is no shape
+    if not digits and grammar_only.sheet(s)[0] in (4, *plain.NO_SHAPE):  # in the oracle's grammar a number out of range is no shape
         listed.append("ranges in the grammar")
         return 3, 0
     if number == 4 and no_easter_offset.sheet(s)[0] == 9:  # the bare day is refused before its offset is read

@@ -9,7 +9,7 @@ use lib.ListN.{length}
 use Rattle.names.specs.Tests.{if_then_else_}
 use Rattle.names.specs.Read.{Reader, _>>=_}
 use Rattle.names.specs.Names.{Word, word, weekday, month, easter}
-use Rattle.names.proofs.Local.{Stop, keep, Local, loose, free, nothing-local, pure-local, here-local, only-local, branch-moved, branch-local, bind-local, then-local, or-local, maybe-local}
+use Rattle.names.proofs.Local.{Stop, keep, LocalFrom, loose, free, nothing-local, pure-local, only-local, branch-local, here-then, bind-local, then-local, or-local, maybe-local}
 use Rattle.names.proofs.Cut.{byte-local, blank-local, year-local, count-local, ordinal-local, short-local}
 use Rattle.names.proofs.NameCut.{word-local, name-local}
 use Rattle.records.specs.declared.Day.{Day}
@@ -137,15 +137,15 @@ weekItem-alike = item-alike weekShape-alike weekMeaning week-refuses
 
 -- the items of a month-day list, p being where each begins
 module _ {u : List ℕ} where
-  pub monthItemBehind-alike : (p : ℕ) (y : Year) (w : Word) → Local Stop keep u false false 0 (monthItemBehind (length u + p) y w) (monthItemBehind p y w)
+  pub monthItemBehind-alike : (p : ℕ) (y : Year) (w : Word) → LocalFrom p Stop keep u false false 0 (monthItemBehind (length u + p) y w) (monthItemBehind p y w)
   unfolding monthItemBehind
   monthItemBehind-alike p y w = then-local (only-local (eqb (w .0) month)) (λ _. meant-alike (monthBehind-alike y (w .1)) monthMeaning month-refuses p)
 
-  pub dateItemBehind-alike : (p : ℕ) (y : Year) (d : Day) → Local Stop keep u false false 0 (dateItemBehind (length u + p) y d) (dateItemBehind p y d)
+  pub dateItemBehind-alike : (p : ℕ) (y : Year) (d : Day) → LocalFrom p Stop keep u false false 0 (dateItemBehind (length u + p) y d) (dateItemBehind p y d)
   unfolding dateItemBehind
   dateItemBehind-alike p y d = meant-alike (datesBehind-alike (rawDate y d)) dateMeaning date-refuses p
 
-  pub monthDayBehind-alike : (p : ℕ) (y : Year) (w : Word) → Local Stop keep u false false 0 (monthDayBehind (length u + p) y w) (monthDayBehind p y w)
+  pub monthDayBehind-alike : (p : ℕ) (y : Year) (w : Word) → LocalFrom p Stop keep u false false 0 (monthDayBehind (length u + p) y w) (monthDayBehind p y w)
   unfolding monthDayBehind
   monthDayBehind-alike p y w = branch-local {k = 0} {l = 0} (dayBehind-alike w) (dateItemBehind-alike p y) (monthItemBehind-alike p y w)
 
@@ -153,4 +153,4 @@ module _ {u : List ℕ} where
   unfolding monthDayItem
   monthDayItem-alike =
       let f : ℕ → Reader Item = λ p. optionalYear >>= λ y. word >>= λ w. monthDayBehind p y w in
-      loose (branch-moved {l = 1} f f here-local (λ p. loose (bind-local optionalYear-alike (λ y. then-local word-local (monthDayBehind-alike p y))) (omega arith)) nothing-local) (omega arith)
+      here-then f f (λ p. bind-local optionalYear-alike (λ y. then-local word-local (monthDayBehind-alike p y)))

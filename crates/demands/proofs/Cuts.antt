@@ -15,12 +15,14 @@ use Rattle.names.specs.Chain.{before, last, chain}
 use Rattle.names.specs.Texts.{byte}
 use Rattle.names.proofs.Local.{Stop, stop-at, Side, At, Ends, Past, moved, keep, Local, next-at, stays}
 use Rattle.names.proofs.Cut.{blanks-local}
-use Rattle.items.specs.Musts.{missing, must}
-use Rattle.rules.specs.Rules.{Rule, commaBlank, bars, separator, next}
+use Rattle.items.specs.Musts.{missingAt, missing, must}
+use Rattle.items.proofs.Quotes.{missing-alike}
+use Rattle.rules.specs.Separators.{commaBlank, bars, separator, next}
+use Rattle.rules.specs.Rules.{Rule}
 use Rattle.rules.specs.declared.Next.{Next}
 use Rattle.rules.specs.declared.Next.the-variants.{Another, Finished}
 use Rattle.rules.proofs.Cut.{startMoves, ruleMoves, rule-local, commaBlank-local, bars-local}
-use Rattle.sheet.specs.Texts.{movedTo, parted, moreRules, noMore, rules}
+use Rattle.sheet.specs.Texts.{parted, moreRules, noMore, rules}
 use Rattle.sheet.proofs.Moves.{rules-are}
 
 -- ---- two readings: before a `;`, and where the text ends instead
@@ -94,7 +96,9 @@ module _ (s t : List ℕ) where
   -- nothing of its kind
   missing-cut : (i : ℕ) → Side false s i → Cut (Goes s i) (missing (s ++ 59 ∷ t) i) (missing s i)
   unfolding missing
-  missing-cut i w = cut-then s t _ blanks-local (λ _. refl) w (λ _ j h z. both)
+  missing-cut i w = cut-then s t _ blanks-local (λ _. refl) w (λ _ j h z.
+      let e : missingAt (s ++ 59 ∷ t) j ≡ missingAt s j = ap (missingAt (s ++ 59 ∷ t)) (sym (zero-add j)) ∙ missing-alike [] s (59 ∷ t) j (stop-at t) z in
+      rw e both)
 
   -- what has to stand behind a rule
   must-cut : (i : ℕ) → Side false s i → Cut (Goes s i) (must next (s ++ 59 ∷ t) i) (must next s i)
@@ -133,16 +137,16 @@ module _ (s t : List ℕ) where
       cut-then s t _ (rule-local separator) rule-still w (λ r j h z.
       cut-then s t _ blanks-local (λ _. refl) z (λ _ e g y. paired r (omega arith) (must-cut s t e y)))
 
-  -- refusals at the rule's place, which stands behind blanks
-  placed-cut : {i j : ℕ} {x y : Read (Rule × Next)} → i ≤ j → Cut (Steps s j) x y → Cut (Steps s i) (movedTo j x) (movedTo j y)
-  placed-cut h (found p) = found (p .0, goes-from (omega arith) (p .1))
-  placed-cut h neither = neither
-  placed-cut h both = both
+  -- a step from an earlier place
+  steps-from : {i j : ℕ} {x y : Read (Rule × Next)} → i ≤ j → Cut (Steps s j) x y → Cut (Steps s i) x y
+  steps-from h (found p) = found (p .0, goes-from (omega arith) (p .1))
+  steps-from h neither = neither
+  steps-from h both = both
 
   -- a rule of a text
   step-cut : (separator i : ℕ) → Side false s i → Cut (Steps s i) (moreRules (Another separator) (s ++ 59 ∷ t) i) (moreRules (Another separator) s i)
   unfolding moreRules
-  step-cut separator i w = cut-then s t _ blanks-local (λ _. refl) w (λ _ j h z. placed-cut (omega arith) (parted-cut separator j z))
+  step-cut separator i w = cut-then s t _ blanks-local (λ _. refl) w (λ _ j h z. steps-from (omega arith) (parted-cut separator j z))
 
 -- ---- the rules of a text
 

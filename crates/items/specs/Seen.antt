@@ -6,6 +6,7 @@ use mathlib.Core.Path.{_≡_}
 use lib.Dec.{eqb}
 use Rattle.names.specs.Tests.{if_then_else_}
 use Rattle.names.specs.Read.{Read, got, none, refused, Reader, nothing}
+use Rattle.names.specs.Texts.{blanks}
 use Rattle.names.specs.Names.{word, weekday, month, event, easter, holiday, week}
 use Rattle.records.specs.declared.Item.{Item}
 use Rattle.times.specs.Spans.{eventItemBehind}
@@ -14,10 +15,11 @@ use Rattle.days.specs.Holidays.{holidayItemBehind}
 use Rattle.dates.specs.Weeks.{weekItem}
 use Rattle.dates.specs.MonthDays.{monthDayBehind}
 use Rattle.dates.specs.declared.Year.the-variants.{Absent}
-use Rattle.items.specs.Musts.{must}
+use Rattle.items.specs.Musts.{missingAt, must}
 use Rattle.items.specs.Kinds.{apart, itemIn}
 use Rattle.items.specs.Sets.{beginsWith}
 use Rattle.items.specs.declared.Kind.{Kind}
+use Rattle.items.specs.declared.Lack.{Lack}
 use Rattle.items.specs.declared.Wish.{Wish}
 use Rattle.items.specs.declared.Wish.the-variants.{As, Not}
 use Rattle.items.specs.declared.Stands.{Stands}
@@ -29,6 +31,10 @@ Standing ks s i (stands.Item a k c) = itemIn ks s i ≡ got (a, k) (c .at)
 Standing ks s i (stands.Refused n p) = itemIn ks s i ≡ refused n p
 Standing ks s i (stands.Name n v c) = (itemIn ks s i ≡ none) × (word s i ≡ got (n, v) (c .at))
 Standing ks s i stands.Nothing = (itemIn ks s i ≡ none) × (word s i ≡ none)
+
+-- what is missing at a place: after the blanks, by its number
+abbrev pub Lacking : List ℕ → ℕ → Lack → Type 0
+Lacking s i r = (blanks s i ≡ got tt (r .place)) × (r .number ≡ missingAt s (r .place))
 
 -- an item of this kind
 abbrev pub withKind : Kind → Read Item → Read (Item × Kind)

@@ -14,6 +14,7 @@ pub use kinds::WEEKDAYS;
 pub use kinds::WEEKS;
 pub use kinds::YEARS;
 pub use looks::look_at;
+pub use musts::missing;
 use names::Cursor;
 use records::Item;
 
@@ -32,6 +33,12 @@ pub enum Kind {
     // holidays after weekdays
     LastHolidays,
     Times,
+}
+
+// What is missing at a place: the number that says what, and the place.
+pub struct Lack {
+    pub number: u8,
+    pub place: usize,
 }
 
 // As what an item is wanted, or that it is not.

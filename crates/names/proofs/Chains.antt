@@ -41,6 +41,7 @@ module _ {S A B : Type 0} {Q : Tail} (shA : ℕ → A → A) {shB : ℕ → B �
         same = λ s v i z w.
             fuelled (suc (length (u ++ (s ++ v)))) l x h F .same s v i z w
             ∙ ap (moved _ (length u)) (enough more end (λ y. takes (M y)) (suc (length (u ++ (s ++ v)))) (suc (length s)) x s i (simp length-append (omega arith)) (omega arith));
+        near = λ s i o. fuelled (suc (length s)) l x h F .near s i o;
       }
 
   -- a chain, moved and cut

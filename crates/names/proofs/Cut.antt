@@ -40,7 +40,7 @@ digit-local = map-local _ _ (λ b. refl) (one-local isDigit refl refl)
 -- what was wanted is there
 enough-local : {u : List ℕ} (wanted a : ℕ) → Local Stop keep u false false wanted (enough wanted a) (enough wanted a)
 enough-local zero a = pure-local a
-enough-local (suc w) a = record { ends = λ s v i z p. rw (eqb·suc-zero w) tt; same = λ s v i z p. rw (eqb·suc-zero w) }
+enough-local (suc w) a = record { ends = λ s v i z p. rw (eqb·suc-zero w) tt; same = λ s v i z p. rw (eqb·suc-zero w); near = λ s i h. rw (eqb·suc-zero w) tt }
 
 pub upTo-local : {u : List ℕ} (n wanted a : ℕ) → Local Stop keep u false false wanted (upTo n wanted a) (upTo n wanted a)
 unfolding upTo

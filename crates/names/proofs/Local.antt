@@ -14,6 +14,7 @@ use Rattle.names.specs.Tests.{if_then_else_}
 use Rattle.names.specs.Quotes.{flips, insideOf}
 use Rattle.names.specs.Read.{Read, got, none, refused, Reader, follow, branch, nothing, pure, refuse, here, when, only, one, ahead}
 use Rattle.names.specs.Texts.{byte}
+use Rattle.names.specs.Refusals.{greatest}
 
 -- ---- the text s stands behind u and before v
 
@@ -40,15 +41,21 @@ pub record Past (k : ℕ) (s : List ℕ) (i j : ℕ) : Type 0 where
   pub moves : i + k ≤ j
   pub stays : j ≤ max i (length s)
 
--- the number of a refusal, from 1 to 9: 10 is no reader's, but the table's
+-- the number of a reader's refusal
 abbrev pub Number : ℕ → Type 0
-Number k = (0 < k) × (k ≤ 9)
+Number k = (0 < k) × (k ≤ greatest)
 
 -- where a reading found something, the place after it is so; a refusal has a number of its own
 abbrev pub Ends : {A : Type 0} → (ℕ → Type 0) → Read A → Type 0
 Ends P (got a j) = P j
 Ends P none = Unit {0}
 Ends P (refused k p) = Number k
+
+-- a refusal is at a place up to n
+abbrev pub Near : {A : Type 0} → ℕ → Read A → Type 0
+Near n (got a j) = Unit {0}
+Near n none = Unit {0}
+Near n (refused k p) = p ≤ n
 
 -- a reading in a text that stands n bytes later: places move, and sh says how the value does
 abbrev pub moved : {A : Type 0} → (ℕ → A → A) → ℕ → Read A → Read A
@@ -60,10 +67,16 @@ moved sh n (refused k p) = refused k (n + p)
 abbrev pub keep : {A : Type 0} → ℕ → A → A
 keep n a = a
 
--- m, read at a place on side a, takes k bytes at least and ends on side c of its text; behind u and before a v as Q says, m′ reads the same, moved
-pub record Local {A : Type 0} (Q : Tail) (sh : ℕ → A → A) (u : List ℕ) (a c : Bool) (k : ℕ) (m′ m : Reader A) : Type 0 where
+-- m, read at a place on side a, takes k bytes at least and ends on side c of its text; behind u and before a v as Q says, m′ reads the same, moved.
+-- Where the place b, at which m may refuse, is a place of its text, so is each at which it refuses
+pub record LocalFrom {A : Type 0} (b : ℕ) (Q : Tail) (sh : ℕ → A → A) (u : List ℕ) (a c : Bool) (k : ℕ) (m′ m : Reader A) : Type 0 where
   pub ends : (s v : List ℕ) (i : ℕ) → Behind Q v → At v a s i → Ends (λ j. Past k s i j × At v c s j) (m s i)
   pub same : (s v : List ℕ) (i : ℕ) → Behind Q v → At v a s i → m′ (u ++ (s ++ v)) (length u + i) ≡ moved sh (length u) (m s i)
+  pub near : (s : List ℕ) (i : ℕ) → b ≤ max i (length s) → Near (max i (length s)) (m s i)
+
+-- the same of a reader that knows no place before its own
+abbrev pub Local : {A : Type 0} → Tail → (ℕ → A → A) → List ℕ → Bool → Bool → ℕ → Reader A → Reader A → Type 0
+Local Q sh u a c k m′ m = LocalFrom 0 Q sh u a c k m′ m
 
 -- of the place after, less is said
 pub ends-map : {A : Type 0} {P P₂ : ℕ → Type 0} → ((j : ℕ) → P j → P₂ j) → (x : Read A) → Ends P x → Ends P₂ x
@@ -85,24 +98,24 @@ module _ {A : Type 0} {Q : Tail} {sh : ℕ → A → A} {a c : Bool} {k : ℕ} {
 
 -- fewer texts may stand behind
 pub narrow : {A : Type 0} {Q : Tail} {sh : ℕ → A → A} {u : List ℕ} {a c : Bool} {k : ℕ} {m′ m : Reader A} → Local Stop sh u a c k m′ m → Local Q sh u a c k m′ m
-narrow M = record { ends = λ s v i z w. M .ends s v i (stops z) w; same = λ s v i z w. M .same s v i (stops z) w }
+narrow M = record { ends = λ s v i z w. M .ends s v i (stops z) w; same = λ s v i z w. M .same s v i (stops z) w; near = M .near }
   where
     stops : {Q : Tail} {v : List ℕ} → Behind Q v → Behind Stop v
     stops stop-end = stop-end
     stops (stop-at t) = stop-at t
 
-module _ {A : Type 0} {Q : Tail} {sh : ℕ → A → A} {u : List ℕ} {a c : Bool} {k : ℕ} {m′ m : Reader A} (M : Local Q sh u a c k m′ m) where
+module _ {A : Type 0} {b : ℕ} {Q : Tail} {sh : ℕ → A → A} {u : List ℕ} {a c : Bool} {k : ℕ} {m′ m : Reader A} (M : LocalFrom b Q sh u a c k m′ m) where
   -- it takes fewer bytes at least
-  pub loose : {l : ℕ} → l ≤ k → Local Q sh u a c l m′ m
-  loose h = record { ends = λ s v i z w. ends-map (λ j p. (omega (arith, p .0), p .1)) (m s i) (M .ends s v i z w); same = M .same }
+  pub loose : {l : ℕ} → l ≤ k → LocalFrom b Q sh u a c l m′ m
+  loose h = record { ends = λ s v i z w. ends-map (λ j p. (omega (arith, p .0), p .1)) (m s i) (M .ends s v i z w); same = M .same; near = M .near }
 
   -- it takes something or nothing
-  pub free : Local Q sh u a c 0 m′ m
+  pub free : LocalFrom b Q sh u a c 0 m′ m
   free = loose (omega arith)
 
   -- values move in another way that comes to the same
-  pub by : {sh₂ : ℕ → A → A} → ((x : A) → sh (length u) x ≡ sh₂ (length u) x) → Local Q sh₂ u a c k m′ m
-  by {sh₂} h = record { ends = M .ends; same = λ s v i z w. M .same s v i z w ∙ go (m s i) }
+  pub by : {sh₂ : ℕ → A → A} → ((x : A) → sh (length u) x ≡ sh₂ (length u) x) → LocalFrom b Q sh₂ u a c k m′ m
+  by {sh₂} h = record { ends = M .ends; same = λ s v i z w. M .same s v i z w ∙ go (m s i); near = M .near }
     where
       go : (x : Read A) → moved sh (length u) x ≡ moved sh₂ (length u) x
       go (got x j) = rw (h x)
@@ -111,31 +124,43 @@ module _ {A : Type 0} {Q : Tail} {sh : ℕ → A → A} {u : List ℕ} {a c : Bo
 
 module _ {Q : Tail} {u : List ℕ} where
   -- no shape
-  pub nothing-local : {A : Type 0} {sh : ℕ → A → A} {a c : Bool} {k : ℕ} → Local Q sh u a c k nothing nothing
-  nothing-local = record { ends = λ s v i z w. tt; same = λ s v i z w. refl }
+  pub nothing-local : {A : Type 0} {b : ℕ} {sh : ℕ → A → A} {a c : Bool} {k : ℕ} → LocalFrom b Q sh u a c k nothing nothing
+  nothing-local = record { ends = λ s v i z w. tt; same = λ s v i z w. refl; near = λ s i h. tt }
 
   -- a value
-  pub pure-local : {A : Type 0} {sh : ℕ → A → A} {a : Bool} (x : A) → Local Q sh u a a 0 (pure (sh (length u) x)) (pure x)
-  pure-local x = record { ends = λ s v i z w. (omega arith, w); same = λ s v i z w. refl }
+  pub pure-local : {A : Type 0} {b : ℕ} {sh : ℕ → A → A} {a : Bool} (x : A) → LocalFrom b Q sh u a a 0 (pure (sh (length u) x)) (pure x)
+  pure-local x = record { ends = λ s v i z w. (omega arith, w); same = λ s v i z w. refl; near = λ s i h. tt }
 
   -- a refusal
-  pub refuse-local : {A : Type 0} {sh : ℕ → A → A} {a c : Bool} {l : ℕ} (k p : ℕ) → Number k → Local Q sh u a c l (refuse k (length u + p)) (refuse k p)
-  refuse-local k p h = record { ends = λ s v i z w. h; same = λ s v i z w. refl }
+  pub refuse-local : {A : Type 0} {sh : ℕ → A → A} {a c : Bool} {l : ℕ} (k p : ℕ) → Number k → LocalFrom p Q sh u a c l (refuse k (length u + p)) (refuse k p)
+  refuse-local k p h = record { ends = λ s v i z w. h; same = λ s v i z w. refl; near = λ s i h. h }
 
   -- the place
   pub here-local : {a : Bool} → Local Q (λ n p. n + p) u a a 0 here here
-  here-local = record { ends = λ s v i z w. (omega arith, w); same = λ s v i z w. refl }
+  here-local = record { ends = λ s v i z w. (omega arith, w); same = λ s v i z w. refl; near = λ s i h. tt }
+
+-- a refusal up to a place is up to a later one
+pub near-up : {A : Type 0} {n l : ℕ} (x : Read A) → n ≤ l → Near n x → Near l x
+near-up (got a j) h w = tt
+near-up none h w = tt
+near-up (refused k p) h w = omega arith
 
 -- where m finds its shape, what follows; where it finds none, n: for a value that holds a place
-module _ {A B : Type 0} {Q : Tail} {sh : ℕ → A → A} {sh₂ : ℕ → B → B} {u : List ℕ} {a b c : Bool} {k l : ℕ} {m′ m : Reader A} {n′ n : Reader B} (f′ f : A → Reader B)
-    (M : Local Q sh u a b k m′ m) (F : (x : A) → Local Q sh₂ u b c l (f′ (sh (length u) x)) (f x)) (N : Local Q sh₂ u a c (k + l) n′ n) where
-  pub branch-moved : Local Q sh₂ u a c (k + l) (branch m′ f′ n′) (branch m f n)
+module _ {A B : Type 0} {p : ℕ} {Q : Tail} {sh : ℕ → A → A} {sh₂ : ℕ → B → B} {u : List ℕ} {a b c : Bool} {k l : ℕ} {m′ m : Reader A} {n′ n : Reader B} (f′ f : A → Reader B)
+    (M : Local Q sh u a b k m′ m) (F : (x : A) → LocalFrom p Q sh₂ u b c l (f′ (sh (length u) x)) (f x)) (N : LocalFrom p Q sh₂ u a c (k + l) n′ n) where
+  pub branch-moved : LocalFrom p Q sh₂ u a c (k + l) (branch m′ f′ n′) (branch m f n)
   branch-moved =
       record {
         ends = λ s v i z w. ends s v i z w (m s i) (M .ends s v i z w);
         same = λ s v i z w. rw (M .same s v i z w) (same s v i z w (m s i) (M .ends s v i z w));
+        near = λ s i h. near s i h (m s i) (M .ends s [] i stop-end tt) (M .near s i (omega arith));
       }
     where
+      near : (s : List ℕ) (i : ℕ) → p ≤ max i (length s) → (x : Read A) → Ends (λ j. Past k s i j × Unit {0}) x → Near (max i (length s)) x → Near (max i (length s)) (follow s i x f n)
+      near s i h (got x j) e w = near-up (f x s j) (omega (arith, e .0)) (F x .near s j (omega (arith, e .0)))
+      near s i h none e w = N .near s i h
+      near s i h (refused y q) e w = w
+
       ends : (s v : List ℕ) (i : ℕ) → Behind Q v → At v a s i → (x : Read A) → Ends (λ j. Past k s i j × At v b s j) x → Ends (λ j. Past (k + l) s i j × At v c s j) (follow s i x f n)
       ends s v i z w (got x j) p = ends-map (λ t q. (omega (arith, p .0, q .0), q .1)) (f x s j) (F x .ends s v j z (p .1))
       ends s v i z w none p = N .ends s v i z w
@@ -149,23 +174,27 @@ module _ {A B : Type 0} {Q : Tail} {sh : ℕ → A → A} {sh₂ : ℕ → B →
 
 module _ {Q : Tail} {u : List ℕ} where
   -- the same for a value that holds none
-  pub branch-local : {A B : Type 0} {sh₂ : ℕ → B → B} {a b c : Bool} {k l : ℕ} {m′ m : Reader A} {f′ f : A → Reader B} {n′ n : Reader B} →
-      Local Q keep u a b k m′ m → ((x : A) → Local Q sh₂ u b c l (f′ x) (f x)) → Local Q sh₂ u a c (k + l) n′ n → Local Q sh₂ u a c (k + l) (branch m′ f′ n′) (branch m f n)
+  pub branch-local : {A B : Type 0} {p : ℕ} {sh₂ : ℕ → B → B} {a b c : Bool} {k l : ℕ} {m′ m : Reader A} {f′ f : A → Reader B} {n′ n : Reader B} →
+      Local Q keep u a b k m′ m → ((x : A) → LocalFrom p Q sh₂ u b c l (f′ x) (f x)) → LocalFrom p Q sh₂ u a c (k + l) n′ n → LocalFrom p Q sh₂ u a c (k + l) (branch m′ f′ n′) (branch m f n)
   branch-local {f′ = f′} {f} M F N = branch-moved f′ f M F N
 
   -- one reader after another
-  pub bind-local : {A B : Type 0} {sh₂ : ℕ → B → B} {a b c : Bool} {k l : ℕ} {m′ m : Reader A} {f′ f : A → Reader B} →
-      Local Q keep u a b k m′ m → ((x : A) → Local Q sh₂ u b c l (f′ x) (f x)) → Local Q sh₂ u a c (k + l) (branch m′ f′ nothing) (branch m f nothing)
+  pub bind-local : {A B : Type 0} {p : ℕ} {sh₂ : ℕ → B → B} {a b c : Bool} {k l : ℕ} {m′ m : Reader A} {f′ f : A → Reader B} →
+      Local Q keep u a b k m′ m → ((x : A) → LocalFrom p Q sh₂ u b c l (f′ x) (f x)) → LocalFrom p Q sh₂ u a c (k + l) (branch m′ f′ nothing) (branch m f nothing)
   bind-local M F = branch-local M F nothing-local
 
   -- one reader after another, of which the first takes the bytes, for a value that holds a place
-  pub then-moved : {A B : Type 0} {sh : ℕ → A → A} {sh₂ : ℕ → B → B} {a b c : Bool} {k : ℕ} {m′ m : Reader A} (f′ f : A → Reader B) →
-      Local Q sh u a b k m′ m → ((x : A) → Local Q sh₂ u b c 0 (f′ (sh (length u) x)) (f x)) → Local Q sh₂ u a c k (branch m′ f′ nothing) (branch m f nothing)
+  pub then-moved : {A B : Type 0} {p : ℕ} {sh : ℕ → A → A} {sh₂ : ℕ → B → B} {a b c : Bool} {k : ℕ} {m′ m : Reader A} (f′ f : A → Reader B) →
+      Local Q sh u a b k m′ m → ((x : A) → LocalFrom p Q sh₂ u b c 0 (f′ (sh (length u) x)) (f x)) → LocalFrom p Q sh₂ u a c k (branch m′ f′ nothing) (branch m f nothing)
   then-moved f′ f M F = loose (branch-moved {l = 0} f′ f M F nothing-local) (omega arith)
 
+  -- the place, and a reader that may refuse there
+  pub here-then : {A : Type 0} {sh : ℕ → A → A} {a c : Bool} {k : ℕ} (f′ f : ℕ → Reader A) → ((p : ℕ) → LocalFrom p Q sh u a c k (f′ (length u + p)) (f p)) → Local Q sh u a c k (branch here f′ nothing) (branch here f nothing)
+  here-then f′ f F = record { ends = λ s v i z w. F i .ends s v i z w; same = λ s v i z w. F i .same s v i z w; near = λ s i h. F i .near s i (omega arith) }
+
   -- the same for a value that holds none
-  pub then-local : {A B : Type 0} {sh₂ : ℕ → B → B} {a b c : Bool} {k : ℕ} {m′ m : Reader A} {f′ f : A → Reader B} →
-      Local Q keep u a b k m′ m → ((x : A) → Local Q sh₂ u b c 0 (f′ x) (f x)) → Local Q sh₂ u a c k (branch m′ f′ nothing) (branch m f nothing)
+  pub then-local : {A B : Type 0} {p : ℕ} {sh₂ : ℕ → B → B} {a b c : Bool} {k : ℕ} {m′ m : Reader A} {f′ f : A → Reader B} →
+      Local Q keep u a b k m′ m → ((x : A) → LocalFrom p Q sh₂ u b c 0 (f′ x) (f x)) → LocalFrom p Q sh₂ u a c k (branch m′ f′ nothing) (branch m f nothing)
   then-local {f′ = f′} {f} M F = then-moved f′ f M F
 
   -- a value changed
@@ -192,6 +221,10 @@ when-ends : {A : Type 0} (P : ℕ → Type 0) (t : Bool) (x : Read A) → (t ≡
 when-ends P true x h = h refl
 when-ends P false x h = tt
 
+when-near : {A : Type 0} (n : ℕ) (t : Bool) (x : Read A) → Near n x → Near n (when t x)
+when-near n true x w = w
+when-near n false x w = tt
+
 when-moved : {A : Type 0} (sh : ℕ → A → A) (n : ℕ) (t : Bool) (x : Read A) → when t (moved sh n x) ≡ moved sh n (when t x)
 when-moved sh n true x = refl
 when-moved sh n false x = refl
@@ -203,6 +236,7 @@ module _ {Q : Tail} {u : List ℕ} {a : Bool} (t : List ℕ → ℕ → Bool) (a
       record {
         ends = λ s v i z w. when-ends _ (t s i) (got tt i) (λ _. (omega arith, w));
         same = λ s v i z w. rw (alike s v i z w) (when-moved keep (length u) (t s i) (got tt i));
+        near = λ s i h. when-near _ (t s i) (got tt i) tt;
       }
 
 -- a test of neither
@@ -229,6 +263,7 @@ module _ {Q : Tail} {u : List ℕ} {a c : Bool} (p : ℕ → Bool) (turn : (s v 
       record {
         ends = λ s v i z w. when-ends _ (ltb i (length s) && p (getD s i 0)) (got (getD s i 0) (suc i)) (found s v i z w);
         same = λ s v i z w. one-behind p u (s ++ v) i ∙ ap (moved keep (length u)) (cut s v i z w);
+        near = λ s i h. when-near _ (ltb i (length s) && p (getD s i 0)) (got (getD s i 0) (suc i)) tt;
       }
     where
       found : (s v : List ℕ) (i : ℕ) → Behind Q v → At v a s i → (ltb i (length s) && p (getD s i 0)) ≡ true → Past 1 s i (suc i) × At v c s (suc i)

@@ -40,3 +40,15 @@ easterDay = 9
 -- all else good, more records than whole groups of 16 words in the table
 abbrev pub noRoom : ℕ
 noRoom = 10
+
+-- an empty rule
+abbrev pub emptyRule : ℕ
+emptyRule = 11
+
+-- a quote, and after it another one or none at all
+abbrev pub brokenQuote : ℕ
+brokenQuote = 12
+
+-- the greatest
+abbrev pub greatest : ℕ
+greatest = brokenQuote

@@ -6,7 +6,9 @@ mod table;
 mod tests;
 mod texts;
 
+pub use refusals::BROKEN_QUOTE;
 pub use refusals::EASTER_DAY;
+pub use refusals::EMPTY_RULE;
 pub use refusals::NO_PART;
 pub use refusals::NO_ROOM;
 pub use refusals::NO_SHAPE;

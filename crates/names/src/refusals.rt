@@ -28,3 +28,9 @@ pub const EASTER_DAY: u8 = 9;
 
 // all else good, more records than whole groups of 16 words in the table
 pub const NO_ROOM: u8 = 10;
+
+// an empty rule
+pub const EMPTY_RULE: u8 = 11;
+
+// a quote, and after it another one or none at all
+pub const BROKEN_QUOTE: u8 = 12;

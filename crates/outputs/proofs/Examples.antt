@@ -12,7 +12,7 @@ unfolding opened outputOf lines line signed decimal digitsIn
 open-end = refl
 
 -- an empty rule
-empty-rule : outputOf (bytes "Mo;; Tu") ≡ bytes "3 3 0 0\n"
+empty-rule : outputOf (bytes "Mo;; Tu") ≡ bytes "11 3 0 0\n"
 unfolding opened outputOf lines line signed decimal digitsIn
 empty-rule = refl
 

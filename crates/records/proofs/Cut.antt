@@ -2,11 +2,10 @@
 use Prim.Native.Nat.{ℕ, _+_}
 use mathlib.Core.List.{List}
 use mathlib.Core.Bool.{Bool, true, false}
-use native.Mathlib.Omega.{arith}
 use lib.ListN.{length}
 use Rattle.names.specs.Tests.{if_then_else_}
 use Rattle.names.specs.Read.{Reader}
-use Rattle.names.proofs.Local.{Number, Stop, keep, Local, loose, nothing-local, pure-local, refuse-local, here-local, branch-moved, then-local}
+use Rattle.names.proofs.Local.{Number, Stop, keep, LocalFrom, Local, pure-local, refuse-local, here-then, then-local}
 use Rattle.records.specs.Items.{judged, meant, item}
 use Rattle.records.specs.declared.Item.{Item}
 use Rattle.records.specs.declared.Meant.{Meant}
@@ -27,17 +26,17 @@ refuses-if true x y p q = p
 refuses-if false x y p q = q
 
 -- a judgement, of an item that begins at p
-pub judged-alike : {u : List ℕ} (p : ℕ) (x : Meant) → Refuses x → Local Stop keep u false false 0 (judged (length u + p) x) (judged p x)
+pub judged-alike : {u : List ℕ} (p : ℕ) (x : Meant) → Refuses x → LocalFrom p Stop keep u false false 0 (judged (length u + p) x) (judged p x)
 judged-alike p (Is a) h = pure-local a
 judged-alike p (Refused k) h = refuse-local k p h
 
 module _ {R : Type 0} {u : List ℕ} {k : ℕ} {shape : Reader R} (S : Alike u k shape) (meaning : R → Meant) (refuses : (r : R) → Refuses (meaning r)) where
   -- an item that begins at p
-  pub meant-alike : (p : ℕ) → Local Stop keep u false false k (meant (length u + p) shape meaning) (meant p shape meaning)
+  pub meant-alike : (p : ℕ) → LocalFrom p Stop keep u false false k (meant (length u + p) shape meaning) (meant p shape meaning)
   meant-alike p = then-local S (λ r. judged-alike p (meaning r) (refuses r))
 
   -- an item
   pub item-alike : Alike u k (item shape meaning)
   item-alike =
       let f : ℕ → Reader Item = λ p. meant p shape meaning in
-      loose (branch-moved {l = k} f f here-local meant-alike nothing-local) (omega arith)
+      here-then f f meant-alike

@@ -10,11 +10,12 @@ use Rattle.names.proofs.Local.{takes}
 use Rattle.names.proofs.Fuel.{chain-is}
 use Rattle.names.proofs.Skips.{map-map}
 use Rattle.records.specs.declared.Item.{Item}
+use Rattle.items.specs.Musts.{missing}
 use Rattle.items.specs.Kinds.{apart}
 use Rattle.items.proofs.Sure.{Sure, sure, then-sure, or-sure, missing-sure, chain-sure}
 use Rattle.rules.specs.Comments.{noComment}
 use Rattle.rules.specs.Modifiers.{modifier}
-use Rattle.rules.specs.Pieces.{more, plainEnd, end, piece}
+use Rattle.rules.specs.Pieces.{empty, more, plainEnd, end, piece}
 use Rattle.rules.specs.Rules.{openingOf, always, wideComment, opening, ruleOf, behind, rule}
 use Rattle.rules.specs.declared.Opening.{Opening}
 use Rattle.rules.specs.declared.Tail.{Tail}
@@ -106,7 +107,7 @@ module _ (x : Stage) (s : List ℕ) (i : ℕ) where
 -- a rule has an end
 ended : (s : List ℕ) (i : ℕ) (x : Stage) → Sure (end x s i)
 unfolding end plainEnd
-ended s i Beginning = or-sure s i (modifier s i) (plainEnd Beginning) (missing-sure Tail s i)
+ended s i Beginning = or-sure s i (modifier s i) (plainEnd Beginning) (or-sure s i (empty s i) missing (missing-sure Tail s i))
 ended s i Always = or-sure s i (apart modifier s i) (plainEnd Always) tt
 ended s i Colon = or-sure s i (apart modifier s i) (plainEnd Colon) tt
 ended s i (After k) = or-sure s i (apart modifier s i) (plainEnd (After k)) tt

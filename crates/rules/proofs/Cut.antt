@@ -1,18 +1,22 @@
 -- Each definition depends on nothing before its place and nothing from a `;` outside quotes on: the lemmas put together as the definitions are.
 use Prim.Native.Nat.{ℕ, zero, suc, _+_, _-_, _<_}
-use mathlib.Core.List.{List}
+use mathlib.Core.List.{List, _∷_, _++_, append-nil}
 use mathlib.Core.List as list
-use mathlib.Core.Bool.{Bool, true, false}
+use mathlib.Core.Bool.{Bool, true, false, _||_}
 use mathlib.Core.Path.{_≡_, refl, sym, ap, _∙_}
 use native.Mathlib.Omega.{arith}
+use native.Mathlib.Decide.{decLt}
+use borrow.Author.Tests.{eq-eqb, ne-eqb}
 use lib.Dec.{eqb}
-use lib.ListN.{length}
+use lib.ListN.{length, getD, length-append, List·getD-append}
+use lib.Seq.{getD-append-add, getD-at}
 use Rattle.names.specs.Tests.{if_then_else_}
 use Rattle.names.specs.Read.{Read, got, none, refused, Reader, follow, branch, nothing, pure, refuse, here, one}
 use Rattle.names.specs.Chain.{skip, chain}
 use Rattle.names.specs.Texts.{byte, bytes}
+use Rattle.names.specs.Refusals.{emptyRule}
 use Rattle.names.specs.Names as names
-use Rattle.names.proofs.Local.{Tail as Behind, Ended, Stop, moved, keep, Local, past, past-one, narrow, loose, free, by, nothing-local, pure-local, refuse-local, here-local, branch-moved, bind-local, then-local, then-moved, map-local, or-local, maybe-local, inner-local, quote-local, ahead-local, only-local}
+use Rattle.names.proofs.Local.{Tail as Tails, Behind, stop-end, stop-at, Side, At, compare-add, look-local, Ended, Stop, moved, keep, Local, past, past-one, narrow, loose, free, by, nothing-local, pure-local, refuse-local, here-local, here-then, branch-moved, bind-local, then-local, then-moved, map-local, or-local, maybe-local, inner-local, quote-local, ahead-local, only-local}
 use Rattle.names.proofs.Ended.{one-ended, byte-ended, atEnd-ended}
 use Rattle.names.proofs.Chains.{step-moves, chain-moves, chain-local, chain-takes, many-local}
 use Rattle.names.proofs.Cut.{byte-local, blanks-local, blank-local, comma-local}
@@ -20,12 +24,13 @@ use Rattle.names.proofs.NameCut.{plain, allOf-local, name-local}
 use Rattle.records.specs.declared.Item.{Item}
 use Rattle.items.specs.Kinds.{apart}
 use Rattle.items.specs.declared.Kind.{Kind}
-use Rattle.items.proofs.Cut.{must-local, itemIn-alike}
+use Rattle.items.proofs.Cut.{missing-local, must-local, itemIn-alike}
 use Rattle.rules.specs.Comments.{commentOf, noComment, isInner, comment, commentApart}
 use Rattle.rules.specs.Modifiers.{tailOf, withComment, modifier}
 use Rattle.rules.specs.Rows.{small, first, listed, following, isWide}
-use Rattle.rules.specs.Pieces.{itemFrom, goesOn, afterColon, colonSign, colon, more, plainEnd, end}
-use Rattle.rules.specs.Rules.{openingOf, always, wideComment, opening, wins, Rule, ruleOf, behind, rule, commaBlank, bars, separator, next}
+use Rattle.rules.specs.Pieces.{empty, itemFrom, goesOn, afterColon, colonSign, colon, more, plainEnd, end}
+use Rattle.rules.specs.Rules.{openingOf, always, wideComment, opening, wins, Rule, ruleOf, behind, rule}
+use Rattle.rules.specs.Separators.{commaBlank, bars, separator, next, stop, ruleEnd}
 use Rattle.rules.specs.declared.Comment.{Comment}
 use Rattle.rules.specs.declared.Opening.{Opening}
 use Rattle.rules.specs.declared.Stage.{Stage}
@@ -76,9 +81,9 @@ found-then P s i f none h = tt
 found-then P s i f (refused k p) h = tt
 
 -- values that are found move in another way that comes to the same
-by-found : {A : Type 0} {Q : Behind} {sh sh₂ : ℕ → A → A} {u : List ℕ} {a c : Bool} {k : ℕ} {m′ m : Reader A} →
+by-found : {A : Type 0} {Q : Tails} {sh sh₂ : ℕ → A → A} {u : List ℕ} {a c : Bool} {k : ℕ} {m′ m : Reader A} →
     Local Q sh u a c k m′ m → ((s : List ℕ) (i : ℕ) → Found (λ x. sh (length u) x ≡ sh₂ (length u) x) (m s i)) → Local Q sh₂ u a c k m′ m
-by-found {A} {sh = sh} {sh₂} {u} {m = m} M h = record { ends = M .ends; same = λ s v i z w. M .same s v i z w ∙ go (m s i) (h s i) }
+by-found {A} {sh = sh} {sh₂} {u} {m = m} M h = record { ends = M .ends; same = λ s v i z w. M .same s v i z w ∙ go (m s i) (h s i); near = M .near }
   where
     go : (x : Read A) → Found (λ x. sh (length u) x ≡ sh₂ (length u) x) x → moved sh (length u) x ≡ moved sh₂ (length u) x
     go (got x j) e = rw e
@@ -154,6 +159,42 @@ wideComment-local =
     let f : Comment → Reader Opening = λ c. branch (byte 58) (λ _. pure (openingOf Colon c)) nothing in
     branch-moved f f comment-local (λ c. then-local (byte-local 58 refl refl) (λ _. pure-local (openingOf Colon c))) nothing-local
 
+-- ---- separators
+
+pub commaBlank-local : {u : List ℕ} → Local Stop keep u false false 1 commaBlank commaBlank
+unfolding commaBlank
+commaBlank-local = then-local (byte-local 44 refl refl) (λ _. ahead-local (eqb 32) refl)
+
+pub bars-local : {u : List ℕ} → Local Stop keep u false false 2 bars bars
+unfolding bars
+bars-local = bind-local (byte-local 124 refl refl) (λ _. byte-local 124 refl refl)
+
+-- the text's end, or the `;` that stands there in a longer text
+pub stop-local : {u : List ℕ} → Local Stop keep u false false 0 stop stop
+unfolding stop
+stop-local {u} = look-local (λ s i. eqb i (length s) || eqb 59 (getD s i 0)) (λ s v i z w. alike s v i z w)
+  where
+    at : (s t : List ℕ) (i : ℕ) → Side false s i → Dec (i < length s) → (eqb i (length (s ++ 59 ∷ t)) || eqb 59 (getD (s ++ 59 ∷ t) i 0)) ≡ (eqb i (length s) || eqb 59 (getD s i 0))
+    at s t i w (yes h) = rw (List·getD-append s (59 ∷ t) 0 i h, ne-eqb i (length s) (λ e. omega arith), ne-eqb i (length (s ++ 59 ∷ t)) (λ e. omega (arith, simp length-append at e)))
+    at s t i w (no h) = let q : i ≡ length s = omega (arith, w .fits) in rw (getD-at s 59 t 0 i (sym q), eq-eqb i (length s) q) (or-true (eqb i (length (s ++ 59 ∷ t))))
+      where
+        or-true : (b : Bool) → (b || true) ≡ true
+        or-true true = refl
+        or-true false = refl
+
+    cut : (s v : List ℕ) (i : ℕ) → Behind Stop v → At v false s i → (eqb i (length (s ++ v)) || eqb 59 (getD (s ++ v) i 0)) ≡ (eqb i (length s) || eqb 59 (getD s i 0))
+    cut s v i stop-end w = rw append-nil
+    cut s v i (stop-at t) w = at s t i w (decLt i (length s))
+
+    alike : (s v : List ℕ) (i : ℕ) → Behind Stop v → At v false s i → (eqb (length u + i) (length (u ++ (s ++ v))) || eqb 59 (getD (u ++ (s ++ v)) (length u + i) 0)) ≡ (eqb i (length s) || eqb 59 (getD s i 0))
+    alike s v i z w = rw (getD-append-add u (s ++ v) i 0, length-append u (s ++ v), compare-add (length u) i (length (s ++ v))) (cut s v i z w)
+
+pub empty-local : {u : List ℕ} {k : ℕ} {sh : ℕ → Tail → Tail} → Local Stop sh u false false k empty empty
+unfolding empty ruleEnd
+empty-local {k = k} =
+    let f : ℕ → Reader Tail = λ p. branch ruleEnd (λ _. refuse emptyRule p) nothing in
+    here-then f f (λ p. loose (bind-local {k = 0} {l = k} (or-local stop-local (or-local (free commaBlank-local) (free bars-local))) (λ _. refuse-local emptyRule p (omega arith))) (omega arith))
+
 -- ---- pieces
 
 module _ {u : List ℕ} where
@@ -181,7 +222,7 @@ module _ {u : List ℕ} where
 
   pub end-local : (x : Stage) → Local Stop tailMoves u false false 0 (end x) (end x)
   unfolding end plainEnd
-  end-local Beginning = free (must-local modifier-local)
+  end-local Beginning = free (or-local modifier-local (or-local empty-local missing-local))
   end-local Always = selected-local
   end-local Colon = selected-local
   end-local (After k) = selected-local
@@ -189,7 +230,7 @@ module _ {u : List ℕ} where
   -- without selectors, an end takes a byte
   pub beginning-end : Local Stop tailMoves u false false 1 (end Beginning) (end Beginning)
   unfolding end plainEnd
-  beginning-end = must-local modifier-local
+  beginning-end = or-local modifier-local (or-local empty-local missing-local)
 
   -- a list of items that stay stays
   items-stay : {k : ℕ} (x : Stage) → Local Stop (chain-moves keep tailMoves) u false false k (chain more end x) (chain more end x) → Local Stop piecesMoves u false false k (chain more end x) (chain more end x)
@@ -229,7 +270,7 @@ or-then {A} m n f s i = go (m s i)
     go (refused k p) = refl
 
 -- so the second may take its bytes with what follows
-or-then-moved : {A B : Type 0} {Q : Behind} {sh : ℕ → A → A} {sh₂ : ℕ → B → B} {u : List ℕ} {a b c : Bool} {k : ℕ} {m′ m : Reader A} (n′ n : Reader A) (f′ f : A → Reader B) → Local Q sh u a b k m′ m →
+or-then-moved : {A B : Type 0} {Q : Tails} {sh : ℕ → A → A} {sh₂ : ℕ → B → B} {u : List ℕ} {a b c : Bool} {k : ℕ} {m′ m : Reader A} (n′ n : Reader A) (f′ f : A → Reader B) → Local Q sh u a b k m′ m →
     ((x : A) → Local Q sh₂ u b c 0 (f′ (sh (length u) x)) (f x)) → Local Q sh₂ u a c k (branch n′ f′ nothing) (branch n f nothing) →
     Local Q sh₂ u a c k (branch (branch m′ pure n′) f′ nothing) (branch (branch m pure n) f nothing)
 or-then-moved {Q = Q} {sh₂ = sh₂} {u} {a} {c = c} {k} {m′} {m} n′ n f′ f M F N =
@@ -237,6 +278,7 @@ or-then-moved {Q = Q} {sh₂ = sh₂} {u} {a} {c = c} {k} {m′} {m} n′ n f′
     record {
       ends = λ s v i z w. rw (or-then m n f s i) (G .ends s v i z w);
       same = λ s v i z w. or-then m′ n′ f′ _ _ ∙ G .same s v i z w ∙ ap (moved sh₂ (length u)) (sym (or-then m n f s i));
+      near = λ s i h. rw (or-then m n f s i) (G .near s i h);
     }
 
 module _ {u : List ℕ} (separator : ℕ) where
@@ -257,15 +299,7 @@ module _ {u : List ℕ} (separator : ℕ) where
       let n : Reader Opening = branch wideComment pure (pure o) in
       or-then-moved n n f f (loose always-local (omega arith)) behind-local (or-then-moved (pure o) (pure o) f f (loose wideComment-local (omega arith)) behind-local (behind-takes o beginning-local))
 
--- ---- separators
-
-pub commaBlank-local : {u : List ℕ} → Local Stop keep u false false 1 commaBlank commaBlank
-unfolding commaBlank
-commaBlank-local = then-local (byte-local 44 refl refl) (λ _. ahead-local (eqb 32) refl)
-
-pub bars-local : {u : List ℕ} → Local Stop keep u false false 2 bars bars
-unfolding bars
-bars-local = bind-local (byte-local 124 refl refl) (λ _. byte-local 124 refl refl)
+-- ---- what parts rules
 
 -- what parts rules begins with `;` itself, or is the text's end: nothing stands behind
 pub separator-ended : {u : List ℕ} → Local Ended keep u false false 1 separator separator

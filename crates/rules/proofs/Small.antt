@@ -7,7 +7,7 @@ use native.Mathlib.Omega.{arith}
 use lib.Dec.{eqb}
 use lib.ListN.{length}
 use Rattle.names.specs.Tests.{if_then_else_}
-use Rattle.names.specs.Read.{Read, got, none, refused, Reader, follow, branch, nothing, pure, map, one, _>>_, _or_}
+use Rattle.names.specs.Read.{Read, got, none, refused, Reader, follow, branch, nothing, pure, refuse, map, one, _>>_, _or_}
 use Rattle.names.specs.Chain.{skip}
 use Rattle.names.specs.Texts.{byte, bytes, blank, blanks, allOf}
 use Rattle.names.specs.Names.{name}
@@ -16,9 +16,10 @@ use Rattle.names.proofs.Local.{past, past-one}
 use Rattle.names.proofs.Ended.{one-ended}
 use Rattle.items.specs.Musts.{missing}
 use Rattle.items.specs.Kinds.{apart}
+use Rattle.rules.specs.Separators.{ruleEnd}
 use Rattle.rules.specs.Comments.{noComment, isInner, comment, commentApart}
 use Rattle.rules.specs.Modifiers.{tailOf, withComment, modifier}
-use Rattle.rules.specs.Pieces.{plainEnd, end}
+use Rattle.rules.specs.Pieces.{empty, plainEnd, end}
 use Rattle.rules.specs.Rules.{openingOf, always, wideComment, opening, wins}
 use Rattle.rules.specs.declared.Comment.{Comment}
 use Rattle.rules.specs.declared.Opening.{Opening}
@@ -88,6 +89,11 @@ module _ (s : List ℕ) where
   unfolding missing
   missing-small P i = found-then P s i _ (blanks s i) (λ _ j _. tt)
 
+  -- nor has an empty rule
+  empty-small : (P : Tail → Type 0) (i : ℕ) → Found P (empty s i)
+  unfolding empty
+  empty-small P i = found-then P s i (λ _. refuse 11 i) (ruleEnd s i) (λ _ j _. tt)
+
   -- a modifier after a blank, or none
   selected-small : (i : ℕ) → Found (SmallEnd (length s)) ((apart modifier or pure (tailOf 0 noComment)) s i)
   selected-small i =
@@ -96,7 +102,7 @@ module _ (s : List ℕ) where
   -- the comment of a rule's end
   pub end-small : (x : Stage) (i : ℕ) → Found (SmallEnd (length s)) (end x s i)
   unfolding end plainEnd
-  end-small Beginning i = found-or (SmallEnd (length s)) s i (modifier s i) missing (modifier-small i) (missing-small (SmallEnd (length s)) i)
+  end-small Beginning i = found-or (SmallEnd (length s)) s i (modifier s i) (plainEnd Beginning) (modifier-small i) (found-or (SmallEnd (length s)) s i (empty s i) missing (empty-small (SmallEnd (length s)) i) (missing-small (SmallEnd (length s)) i))
   end-small Always i = selected-small i
   end-small Colon i = selected-small i
   end-small (After k) i = selected-small i

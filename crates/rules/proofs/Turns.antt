@@ -1,16 +1,17 @@
 -- A piece of a rule, by what stands where the rule goes on.
 use Prim.Native.Nat.{ℕ, _≤_}
-use mathlib.Core.Bool.{Bool, true, false}
+use mathlib.Core.Bool.{Bool, true, false, _||_}
 use mathlib.Core.List.{List, []}
 use mathlib.Core.Logic.{_⊎_, inl, inr}
 use mathlib.Core.Path.{_≡_, refl, sym, ap, _∙_}
 use native.Mathlib.Omega.{arith}
 use borrow.Author.Tests.{eq-eqb, ne-eqb}
 use lib.Dec.{eqb}
-use lib.ListN.{getD}
-use Rattle.names.specs.Read.{Read, got, none, refused, Reader, follow, branch, nothing, pure, map, _>>_, _or_}
+use lib.ListN.{length, getD}
+use Rattle.names.specs.Read.{Read, got, none, refused, Reader, follow, branch, nothing, pure, refuse, map, only, atEnd, _>>_, _or_}
 use Rattle.names.specs.Texts.{byte, blank, blanks, comma}
 use Rattle.names.specs.Names.{word, name}
+use Rattle.names.specs.Refusals.{emptyRule}
 use Rattle.names.specs.Names as names
 use Rattle.names.proofs.Laws.{one-is}
 use Rattle.names.proofs.Search.{word-letter}
@@ -24,11 +25,14 @@ use Rattle.items.proofs.Standing.{name-is, name-other, name-none}
 use Rattle.rules.specs.Comments.{noComment, comment, commentApart}
 use Rattle.rules.specs.Modifiers.{tailOf, withComment, modifier}
 use Rattle.rules.specs.Rows.{small, first, listed, following, isWide}
-use Rattle.rules.specs.Pieces.{itemFrom, goesOn, afterColon, colonSign, colon, more, plainEnd, end, piece}
+use Rattle.rules.specs.Pieces.{empty, itemFrom, goesOn, afterColon, colonSign, colon, more, plainEnd, end, piece}
 use Rattle.names.specs.declared.Cursor.{Cursor}
 use Rattle.items.specs.Sets.{kindsOf}
 use Rattle.rules.specs.Seen.{turned}
 use Rattle.rules.specs.declared.Turn.the-variants.{On}
+use Rattle.rules.specs.Separators.{commaBlank, bars, separator, next, stop, ruleEnd}
+use Rattle.rules.specs.declared.Next.{Next}
+use Rattle.rules.specs.declared.Next.the-variants.{Another, Finished}
 use Rattle.rules.specs.declared.Comment.{Comment}
 use Rattle.rules.specs.declared.Tail.{Tail}
 use Rattle.rules.specs.declared.Stage.{Stage}
@@ -176,9 +180,8 @@ module _ (s : List ℕ) (j : ℕ) (ks : List Kind) where
   pub has-refused : {n p : ℕ} → itemIn ks s j ≡ refused n p → has ≡ refused n p
   has-refused e = rw e
 
-  pub has-none : {l : ℕ} → itemIn ks s j ≡ none → blanks s j ≡ got tt l → has ≡ refused 3 l
-  unfolding missing
-  has-none e b = rw (e, b)
+  pub has-none : itemIn ks s j ≡ none → has ≡ map inl missing s j
+  has-none e = rw e
 
   -- or may
   module _ (x : Stage) (i : ℕ) where
@@ -227,3 +230,38 @@ module _ (s : List ℕ) (x : Stage) (i : ℕ) (c : Cursor) (set : ℕ) where
   pub turned-refused : (m : Bool) {n p : ℕ} → itemIn (kindsOf set) s (c .at) ≡ refused n p → turned s x i (On c set m) ≡ refused n p
   turned-refused true e = has-refused s (c .at) (kindsOf set) e
   turned-refused false e = may-refused s (c .at) (kindsOf set) x i e
+
+-- ---- nothing was read
+
+module _ (s : List ℕ) (i : ℕ) where
+  -- an empty rule, from what parts it from the next
+  empty-is : empty s i ≡ follow s i (next s i) (λ _. refuse emptyRule i) nothing
+  unfolding empty ruleEnd stop next separator atEnd byte
+  empty-is = go (eqb i (length s)) (eqb 59 (getD s i 0)) refl
+    where
+      last : (b : Read (Unit {0})) → follow {B = Tail} s i b (λ _. refuse emptyRule i) nothing ≡ follow s i (follow s i b (λ _. pure (Another 2)) nothing) (λ _. refuse emptyRule i) nothing
+      last (got tt j) = refl
+      last none = refl
+      last (refused k p) = refl
+
+      others : (c : Read (Unit {0})) →
+          follow {B = Tail} s i (follow s i c pure bars) (λ _. refuse emptyRule i) nothing
+          ≡ follow s i (follow s i (follow s i c (λ _. pure (Another 1)) nothing) pure (branch bars (λ _. pure (Another 2)) nothing)) (λ _. refuse emptyRule i) nothing
+      others (got tt j) = refl
+      others none = last (bars s i)
+      others (refused k p) = refl
+
+      go : (a t : Bool) → eqb 59 (getD s i 0) ≡ t →
+          follow {B = Tail} s i (follow s i (only (a || t) s i) pure (commaBlank or bars)) (λ _. refuse emptyRule i) nothing
+          ≡ follow s i (follow s i (follow s i (only a s i) (λ _. pure Finished) nothing) pure separator) (λ _. refuse emptyRule i) nothing
+      go true t e = refl
+      go false true e = rw (one-is (eqb 59) refl s i refl e)
+      go false false e = rw (one-is (eqb 59) refl s i refl e) (others (commaBlank s i))
+
+  pub nothing-empty : {n : Next} {j : ℕ} → next s i ≡ got n j → map {B = Piece} inr (plainEnd Beginning) s i ≡ refused emptyRule i
+  unfolding plainEnd
+  nothing-empty e = rw (empty-is, e)
+
+  pub nothing-else : next s i ≡ none → map {B = Piece} inr (plainEnd Beginning) s i ≡ map inr missing s i
+  unfolding plainEnd
+  nothing-else e = rw (empty-is, e)

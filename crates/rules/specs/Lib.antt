@@ -1,3 +1,4 @@
+pub mod Separators
 pub mod Comments
 pub mod Modifiers
 pub mod Rows

@@ -1,12 +1,14 @@
 -- The pieces of a rule, in order: what may stand after what was read last.
 use mathlib.Core.List.{List}
 use mathlib.Core.Logic.{_⊎_, inl, inr}
-use Rattle.names.specs.Read.{Reader, branch, nothing, pure, map, only, _>>_, _>>=_, _or_}
+use Rattle.names.specs.Read.{Reader, branch, nothing, pure, refuse, here, map, only, _>>_, _>>=_, _or_}
 use Rattle.names.specs.Texts.{sign, comma}
+use Rattle.names.specs.Refusals.{emptyRule}
 use Rattle.records.specs.declared.Item.{Item}
 use Rattle.items.specs.Musts.{missing, must}
 use Rattle.items.specs.Kinds.{apart, itemIn}
 use Rattle.items.specs.declared.Kind.{Kind}
+use Rattle.rules.specs.Separators.{ruleEnd}
 use Rattle.rules.specs.Comments.{noComment}
 use Rattle.rules.specs.Modifiers.{tailOf, modifier}
 use Rattle.rules.specs.Rows.{small, first, listed, following, isWide}
@@ -46,9 +48,16 @@ more Always = nothing
 more Colon = afterColon
 more (After k) = goesOn k or colon k or apart (itemFrom (following k))
 
+-- an empty rule: nothing but blanks up to the text's end or a separator
+unfoldable pub empty : Reader Tail
+empty = do
+  p ← here
+  ruleEnd
+  refuse emptyRule p
+
 -- how a rule ends without a modifier: with selectors it is open
 unfoldable pub plainEnd : Stage → Reader Tail
-plainEnd Beginning = missing
+plainEnd Beginning = empty or missing
 plainEnd Always = pure (tailOf 0 noComment)
 plainEnd Colon = pure (tailOf 0 noComment)
 plainEnd (After k) = pure (tailOf 0 noComment)

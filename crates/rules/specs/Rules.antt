@@ -4,7 +4,7 @@ use mathlib.Core.List.{List}
 use lib.Dec.{eqb}
 use lib.ListN.{length}
 use Rattle.names.specs.Tests.{if_then_else_}
-use Rattle.names.specs.Read.{Reader, branch, pure, map, _>>=_, _>>_, _or_, ahead, atEnd}
+use Rattle.names.specs.Read.{Reader, branch, pure, map, _>>=_, _>>_, _or_}
 use Rattle.names.specs.Chain.{chain}
 use Rattle.names.specs.Texts.{bytes, sign, allOf}
 use Rattle.records.specs.declared.Item.{Item}
@@ -18,8 +18,6 @@ use Rattle.rules.specs.declared.Stage.{Stage}
 use Rattle.rules.specs.declared.Stage.the-variants.{Beginning, Always, Colon}
 use Rattle.rules.specs.declared.Tail.{Tail}
 use Rattle.rules.specs.declared.Head.{Head}
-use Rattle.rules.specs.declared.Next.{Next}
-use Rattle.rules.specs.declared.Next.the-variants.{Another, Finished}
 
 -- what was read at the beginning, and its comment
 abbrev pub openingOf : Stage → Comment → Opening
@@ -75,23 +73,3 @@ rule separator = do
 -- a rule's head alone
 abbrev pub counted : ℕ → Reader Head
 counted separator = map (λ r. r .0) (rule separator)
-
--- `,` followed by a blank
-unfoldable pub commaBlank : Reader (Unit {0})
-commaBlank = do
-  sign ","
-  ahead (eqb 32)
-
--- `||`
-unfoldable pub bars : Reader (Unit {0})
-bars = do
-  sign "|"
-  sign "|"
-
--- rules are parted by `;` (0), by `,` followed by a blank (1), or by `||` (2)
-unfoldable pub separator : Reader Next
-separator = (do sign ";"; pure (Another 0)) or (do commaBlank; pure (Another 1)) or (do bars; pure (Another 2))
-
--- the text's end, or what parts a rule from the next
-unfoldable pub next : Reader Next
-next = (do atEnd; pure Finished) or separator

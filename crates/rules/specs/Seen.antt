@@ -6,7 +6,7 @@ use mathlib.Core.Path.{_≡_}
 use mathlib.Core.Logic.{_⊎_, inl, inr}
 use Rattle.names.specs.Read.{Read, got, none, refused, branch, pure, map}
 use Rattle.records.specs.declared.Item.{Item}
-use Rattle.items.specs.Musts.{must}
+use Rattle.items.specs.Musts.{missing, must}
 use Rattle.items.specs.Kinds.{apart}
 use Rattle.items.specs.Sets.{kindsOf}
 use Rattle.items.specs.declared.Kind.{Kind}
@@ -40,6 +40,10 @@ abbrev pub seenPiece : Piece → Read ((Item × Stage) ⊎ Tail)
 seenPiece (piece.Item a k c) = got (inl (a, After k)) (c .at)
 seenPiece (piece.End t c) = got (inr t) (c .at)
 seenPiece (piece.Refused k p) = refused k p
+
+-- a refusal of what has to stand at a place and does not: neither an item nor an end
+abbrev pub Lacks : List ℕ → ℕ → Piece → Type 0
+Lacks s i r = (map inl missing s i ≡ seenPiece r) × (map inr missing s i ≡ seenPiece r)
 
 -- where a rule with this stage and place goes on: with an item that has to stand there; or with one that may, or a modifier; or it ends
 abbrev pub turned : List ℕ → Stage → ℕ → Turn → Read ((Item × Stage) ⊎ Tail)

@@ -7,9 +7,10 @@ ghost use Rattle.items.specs.Sets.{kindsOf};
 ghost use Rattle.rules.specs.Comments.{comment};
 ghost use Rattle.rules.specs.Modifiers.{tailOf};
 ghost use Rattle.rules.specs.Pieces as pieces;
-ghost use Rattle.rules.specs.Seen.{seenPiece, turned, ColonTurns, BlankTurns};
+ghost use Rattle.rules.specs.Seen.{seenPiece, Lacks, turned, ColonTurns, BlankTurns};
 ghost use Rattle.rules.specs.declared.Stage.the-variants as stage;
 use crate::CommentRead;
+use crate::NextRead;
 use crate::Piece;
 use crate::Spot;
 use crate::Stage;
@@ -23,13 +24,15 @@ use crate::rows::SMALL;
 use crate::rows::following;
 use crate::rows::is_wide;
 use crate::rows::listed;
+use crate::separators::next_rule;
 use items::Kind;
 use items::NO_KIND;
 use items::Stands;
 use items::look_at;
+use items::missing;
 use names::Cursor;
+use names::EMPTY_RULE;
 use names::MODIFIER;
-use names::NO_SHAPE;
 use names::Step;
 
 // After a colon a blank and a small part have to stand.
@@ -80,6 +83,25 @@ fn after_item(s: &[u8], c: Cursor, kind: Kind) -> Turn
     }
 }
 
+// What has to stand at c and does not.
+fn lacking(s: &[u8], c: Cursor) -> Piece
+    ensures { λ r. ⌜ Lacks (now (s .entry)) (c .at) r ⌝ }
+{
+    let lack = missing(s, c);
+    Piece::Refused(lack.number, lack.place)
+}
+
+// A rule at c of which nothing was read: it is empty, or something else stands there.
+fn nothing_read(s: &[u8], c: Cursor) -> Piece
+    ensures { λ r. ⌜ map inr (pieces.plainEnd stage.Beginning) (now (s .entry)) (c .at) ≡ seenPiece r ⌝ }
+{
+    let next = next_rule(s, c);
+    match next {
+        NextRead::Got(_, _) => Piece::Refused(EMPTY_RULE, c.at),
+        NextRead::Missing => lacking(s, c),
+    }
+}
+
 impl Spot {
     // Where the rule goes on.
     fn turn(self, s: &[u8]) -> Turn
@@ -102,7 +124,7 @@ impl Spot {
         let at = self.at;
         let stage = self.stage;
         match stage {
-            Stage::Beginning => Piece::Refused(NO_SHAPE, Cursor { at }.blanks(s).at),
+            Stage::Beginning => nothing_read(s, Cursor { at }),
             _ => {
                 let none = no_comment();
                 Piece::End(
@@ -147,7 +169,7 @@ impl Spot {
             Stands::Refused(k, p) => Piece::Refused(k, p),
             Stands::Name(kind, value, d) => {
                 if must {
-                    return Piece::Refused(NO_SHAPE, c.blanks(s).at);
+                    return lacking(s, c);
                 }
                 if kind == MODIFIER {
                     return with_comment(s, d, value);
@@ -156,7 +178,7 @@ impl Spot {
             }
             Stands::Nothing => {
                 if must {
-                    return Piece::Refused(NO_SHAPE, c.blanks(s).at);
+                    return lacking(s, c);
                 }
                 self.noted(s, c)
             }

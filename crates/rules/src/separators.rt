@@ -1,7 +1,7 @@
 // Rules are parted by `;` (0), by `,` followed by a blank (1), or by `||` (2).
 ghost use mathlib.Core.Path.{_≡_};
 ghost use Rattle.names.specs.Seen.{seenStep};
-ghost use Rattle.rules.specs.Rules as rules;
+ghost use Rattle.rules.specs.Separators as separators;
 ghost use Rattle.rules.specs.Seen.{seenNext};
 use crate::Next;
 use crate::NextRead;
@@ -10,7 +10,7 @@ use names::Step;
 
 // `,` followed by a blank.
 fn comma_blank(s: &[u8], c: Cursor) -> Step
-    ensures { λ r. ⌜ rules.commaBlank (now (s .entry)) (c .at) ≡ seenStep r ⌝ }
+    ensures { λ r. ⌜ separators.commaBlank (now (s .entry)) (c .at) ≡ seenStep r ⌝ }
 {
     let comma = c.sign(s, b',');
     let Step::Got(d) = comma else {
@@ -25,7 +25,7 @@ fn comma_blank(s: &[u8], c: Cursor) -> Step
 
 // `||`
 fn bars(s: &[u8], c: Cursor) -> Step
-    ensures { λ r. ⌜ rules.bars (now (s .entry)) (c .at) ≡ seenStep r ⌝ }
+    ensures { λ r. ⌜ separators.bars (now (s .entry)) (c .at) ≡ seenStep r ⌝ }
 {
     let bar = c.sign(s, b'|');
     let Step::Got(d) = bar else {
@@ -36,7 +36,7 @@ fn bars(s: &[u8], c: Cursor) -> Step
 
 // What parts a rule from the next.
 fn separator(s: &[u8], c: Cursor) -> NextRead
-    ensures { λ r. ⌜ rules.separator (now (s .entry)) (c .at) ≡ seenNext r ⌝ }
+    ensures { λ r. ⌜ separators.separator (now (s .entry)) (c .at) ≡ seenNext r ⌝ }
 {
     let semicolon = c.sign(s, b';');
     if let Step::Got(d) = semicolon {
@@ -55,7 +55,7 @@ fn separator(s: &[u8], c: Cursor) -> NextRead
 
 // The text's end, or what parts a rule from the next.
 pub fn next_rule(s: &[u8], c: Cursor) -> NextRead
-    ensures { λ r. ⌜ rules.next (now (s .entry)) (c .at) ≡ seenNext r ⌝ }
+    ensures { λ r. ⌜ separators.next (now (s .entry)) (c .at) ≡ seenNext r ⌝ }
 {
     if c.at == s.len() {
         return NextRead::Got(Next::Finished, c);

@@ -14,21 +14,18 @@ use Rattle.names.specs.Tests.{if_then_else_}
 use Rattle.names.specs.Quotes.{flips}
 use Rattle.names.specs.Read.{Read, got, none, refused, follow, nothing, pure, map}
 use Rattle.names.specs.Chain.{before, last, chainIn, chain}
-use Rattle.names.specs.Texts.{blanks}
-use Rattle.names.proofs.Local.{Ends, past}
-use Rattle.names.proofs.Skips.{skip-sure}
-use Rattle.names.proofs.Cut.{blanks-local}
+use Rattle.names.proofs.Local.{Ends, Near, near-up}
 use Rattle.rules.specs.Rules.{Rule}
 use Rattle.rules.specs.declared.Next.{Next}
 use Rattle.rules.specs.declared.Next.the-variants.{Another, Finished}
-use Rattle.sheet.specs.Texts.{movedTo, parted, moreRules, noMore, rules, records}
+use Rattle.sheet.specs.Texts.{moreRules, noMore, rules, records}
 use Rattle.sheet.specs.Warnings.{isLetter, warned, warningsIn, warningsOf}
 use Rattle.sheet.specs.Sheets.{answerOf, refusal, judgedText, textOf, sheetOf, sheetReadingBytes, wordsIn}
 use Rattle.sheet.specs.Parts.{begins, partEnd}
 use Rattle.sheet.specs.PartReadings.{partAnswerOf, withNext, partTo, partRefusal, partOf, partReadingBytes}
 use Rattle.sheet.specs.declared.Answer.{Answer}
 use Rattle.sheet.specs.declared.PartAnswer.{PartAnswer}
-use Rattle.sheet.proofs.Moves.{takes}
+use Rattle.sheet.proofs.Moves.{moreRules-ended, takes}
 use Rattle.sheet.proofs.Takes.{Upto}
 use Rattle.sheet.proofs.Turns.{more-takes, records-more, records-none}
 use Rattle.sheet.proofs.PartLaws.{begins-fits, end-fits}
@@ -47,25 +44,9 @@ warnings-few inside letter (b ∷ s) = go (warned inside letter (b ∷ s) b) (wa
 
 -- ---- places and records
 
--- a refusal is at a place up to n
-abbrev Near : {A : Type 0} → ℕ → Read A → Type 0
-Near n (got a j) = Unit {0}
-Near n none = Unit {0}
-Near n (refused k p) = p ≤ n
-
 -- a rule of a text is refused at one of its places
 more-near : (x : Next) (s : List ℕ) (i : ℕ) → i ≤ length s → Near (length s) (moreRules x s i)
-unfolding moreRules blanks
-more-near (Another q) s i h =
-    let b = skip-sure (eqb 32) s i in
-    let w : b .0 ≤ length s = omega (arith, past blanks-local (b .1) .stays) in
-    rw (b .1) (go (b .0) w (parted q s (b .0)))
-  where
-    go : (j : ℕ) → j ≤ length s → (x : Read (Rule × Next)) → Near (length s) (movedTo j x)
-    go j w (got a k) = tt
-    go j w none = tt
-    go j w (refused e p) = w
-more-near Finished s i h = tt
+more-near x s i h = near-up (moreRules x s i) (omega arith) (moreRules-ended {u = []} x .near s i (omega arith))
 
 -- from the place i on there are no more records than bytes, and a refusal is at a place of the text
 abbrev Bounded : ℕ → ℕ → Read (List Rule × Unit {0}) → Type 0

@@ -13,12 +13,13 @@ use Rattle.names.proofs.Chains.{step-moves, chain-moves, chain-local}
 use Rattle.names.proofs.Fuel.{chain-is}
 use Rattle.names.proofs.Cut.{blanks-local}
 use Rattle.items.specs.Musts.{must}
-use Rattle.rules.specs.Rules.{Rule, next}
+use Rattle.rules.specs.Separators.{next}
+use Rattle.rules.specs.Rules.{Rule}
 use Rattle.rules.specs.declared.Next.{Next}
 use Rattle.rules.specs.declared.Next.the-variants.{Another, Finished}
 use Rattle.items.proofs.Cut.{missing-local}
 use Rattle.rules.proofs.Cut.{ruleMoves, rule-local, next-ended}
-use Rattle.sheet.specs.Texts.{movedTo, placed, parted, moreRules, noMore, rules}
+use Rattle.sheet.specs.Texts.{parted, moreRules, noMore, rules}
 
 -- what parts a rule from the next has to stand there
 pub must-next : {u : List ℕ} → Local Ended keep u false false 0 (must next) (must next)
@@ -31,28 +32,10 @@ parted-ended separator =
     let f : Rule → Reader (Rule × Next) = λ r. branch blanks (λ _. branch (must next) (λ n. pure (r, n)) nothing) nothing in
     then-moved f f (narrow (rule-local separator)) (λ r. then-local (narrow blanks-local) (λ _. then-local must-next (λ n. pure-local (r, n))))
 
--- refusals at the place where a reader begins
-placed-local : {A : Type 0} {Q : Tail} {sh : ℕ → A → A} {u : List ℕ} {a c : Bool} {k : ℕ} {m′ m : Reader A} → Local Q sh u a c k m′ m → Local Q sh u a c k (placed m′) (placed m)
-placed-local {A} {sh = sh} {u} {m = m} M =
-    record {
-      ends = λ s v i z w. stay _ i (m s i) (M .ends s v i z w);
-      same = λ s v i z w. ap (movedTo (length u + i)) (M .same s v i z w) ∙ both (length u) i (m s i);
-    }
-  where
-    stay : (P : ℕ → Type 0) (i : ℕ) (x : Read A) → Ends P x → Ends P (movedTo i x)
-    stay P i (got a j) p = p
-    stay P i none p = tt
-    stay P i (refused k q) p = p
-
-    both : (n i : ℕ) (x : Read A) → movedTo (n + i) (moved sh n x) ≡ moved sh n (movedTo i x)
-    both n i (got a j) = refl
-    both n i none = refl
-    both n i (refused k q) = refl
-
 -- a rule of a text
 pub moreRules-ended : {u : List ℕ} (x : Next) → Local Ended (step-moves ruleMoves) u false false 1 (moreRules x) (moreRules x)
 unfolding moreRules
-moreRules-ended (Another separator) = loose (bind-local (narrow blanks-local) (λ _. placed-local (parted-ended separator))) (omega arith)
+moreRules-ended (Another separator) = loose (bind-local (narrow blanks-local) (λ _. parted-ended separator)) (omega arith)
 moreRules-ended Finished = nothing-local
 
 -- the end of a text's rules

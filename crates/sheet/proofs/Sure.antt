@@ -7,12 +7,13 @@ use Rattle.names.specs.Read.{Read, got, none, refused, Reader, pure, map}
 use Rattle.names.specs.Texts.{blanks}
 use Rattle.names.proofs.Skips.{skip-sure}
 use Rattle.items.specs.Musts.{must}
-use Rattle.rules.specs.Rules.{Rule, rule, next}
+use Rattle.rules.specs.Separators.{next}
+use Rattle.rules.specs.Rules.{Rule, rule}
 use Rattle.rules.specs.declared.Next.{Next}
 use Rattle.rules.specs.declared.Next.the-variants.{Another, Finished}
 use Rattle.items.proofs.Sure.{Sure, sure, then-sure, must-sure, chain-sure}
 use Rattle.rules.proofs.Chained.{rule-sure}
-use Rattle.sheet.specs.Texts.{movedTo, placed, afterRule, parted, moreRules, noMore, rules}
+use Rattle.sheet.specs.Texts.{afterRule, parted, moreRules, noMore, rules}
 use Rattle.sheet.proofs.Moves.{takes}
 
 -- blanks are
@@ -25,14 +26,9 @@ more-sure : (separator : ℕ) (s : List ℕ) (i : ℕ) → Sure (moreRules (Anot
 unfolding moreRules parted
 more-sure separator s i =
     let after : (r : Rule) → Reader (Rule × Next) = λ r. afterRule r in
-    then-sure s i (λ _. placed (parted separator)) (blanks s i) (blanks-sure s i) (λ _ j.
-    placed-sure j (parted separator s j) (then-sure s j after (rule separator s j) (rule-sure separator s j) (λ r k.
-    then-sure s k (λ _. map (λ n. (r, n)) (must next)) (blanks s k) (blanks-sure s k) (λ _ l. then-sure s l (λ n. pure (r, n)) (must next s l) (must-sure s l next) (λ _ _. tt)))))
-  where
-    placed-sure : {A : Type 0} (j : ℕ) (r : Read A) → Sure r → Sure (movedTo j r)
-    placed-sure j (got a k) h = tt
-    placed-sure j none h = h
-    placed-sure j (refused k p) h = tt
+    then-sure s i (λ _. parted separator) (blanks s i) (blanks-sure s i) (λ _ j.
+    then-sure s j after (rule separator s j) (rule-sure separator s j) (λ r k.
+    then-sure s k (λ _. map (λ n. (r, n)) (must next)) (blanks s k) (blanks-sure s k) (λ _ l. then-sure s l (λ n. pure (r, n)) (must next s l) (must-sure s l next) (λ _ _. tt))))
 
 -- where there is no rule more, the text has ended
 ends : (s : List ℕ) (x : Next) (i : ℕ) → moreRules x s i ≡ none → Sure (noMore x s i)

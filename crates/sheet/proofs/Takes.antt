@@ -11,7 +11,7 @@ use Rattle.names.specs.Tests.{within}
 use Rattle.names.specs.Read.{Read, got, none, refused, Reader, follow, nothing, pure, map, _>>=_}
 use Rattle.names.specs.Chain.{before, last, chainIn, chain}
 use Rattle.names.specs.Names.{Row, names, spelledSo, lower, letter, firstOf, word, name, weekday, holiday, event, week}
-use Rattle.names.proofs.Local.{Stop, keep, Local, past, past-one, loose, free, nothing-local, pure-local, here-local, only-local, branch-moved, branch-local, bind-local, then-local, map-local, or-local}
+use Rattle.names.proofs.Local.{Stop, keep, Local, past, past-one, loose, free, nothing-local, pure-local, here-then, only-local, branch-local, bind-local, then-local, map-local, or-local}
 use Rattle.names.proofs.Chains.{step-moves}
 use Rattle.names.proofs.Cut.{byte-local, blank-local, comma-local, hour-local, minute-local}
 use Rattle.names.proofs.NameCut.{plain, allOf-local, name-local}
@@ -92,7 +92,7 @@ module _ {u : List ℕ} where
   unfolding monthDayItem
   month-day-two =
       let f : ℕ → Reader Item = λ p. optionalYear >>= λ y. word >>= λ w. monthDayBehind p y w in
-      loose (branch-moved {l = 2} f f here-local (λ p. loose (bind-local optionalYear-alike (λ y. then-local word-two (monthDayBehind-alike p y))) (omega arith)) nothing-local) (omega arith)
+      here-then f f (λ p. bind-local optionalYear-alike (λ y. then-local word-two (monthDayBehind-alike p y)))
 
   weeks-two : Alike u 2 weeks
   unfolding weeks

@@ -15,14 +15,15 @@ use Rattle.records.specs.Words.{wordsOf}
 use Rattle.records.specs.Tables.{Tables, allKept}
 use Rattle.records.proofs.Keeps.{all-append}
 use Rattle.items.specs.Musts.{must}
-use Rattle.rules.specs.Rules.{Rule, rule, next}
+use Rattle.rules.specs.Separators.{next}
+use Rattle.rules.specs.Rules.{Rule, rule}
 use Rattle.rules.specs.Seen.{seenRule}
 use Rattle.rules.specs.declared.Head.{Head}
 use Rattle.rules.specs.declared.Next.{Next}
 use Rattle.rules.specs.declared.Next.the-variants.{Another, Finished}
 use Rattle.rules.specs.declared.RuleRead.{RuleRead}
 use Rattle.rules.specs.declared.RuleRead.the-variants as read
-use Rattle.sheet.specs.Texts.{movedTo, afterRule, parted, moreRules, noMore, rules, ruleRecords, records}
+use Rattle.sheet.specs.Texts.{afterRule, parted, moreRules, noMore, rules, ruleRecords, records}
 use Rattle.sheet.specs.Into.{ruleInto, rulesInto}
 use Rattle.sheet.specs.Seen.{seenRuleInto}
 use Rattle.sheet.proofs.Moves.{takes, must-next, rules-are}
@@ -47,19 +48,14 @@ records-none = refl
 pub more-takes : (separator : ℕ) (s : List ℕ) (i : ℕ) → Upto (λ x k. i + suc (length (x .0 .1)) ≤ k) (moreRules (Another separator) s i)
 unfolding moreRules parted
 more-takes separator s i =
-    upto-then P s i _ (blanks s i) (λ _ j e. at-place P j (follow s j (rule separator s j) afterRule nothing)
-    (upto-then P s j afterRule (rule separator s j) (λ r k f.
+    upto-then P s i _ (blanks s i) (λ _ j e.
+    upto-then P s j afterRule (rule separator s j) (λ r k f.
     let h : Upto (λ r k. (r .0 .items ≡ length (r .1)) × (j + suc (length (r .1)) ≤ k)) (got r k) = rw f at (rule-takes s separator j) in
     upto-then P s k _ (blanks s k) (λ _ l g. upto-then P s l _ (must next s l) (λ n m o.
-    omega (arith, h .1, past blanks-local e .moves, past blanks-local g .moves, past must-next o .moves))))))
+    omega (arith, h .1, past blanks-local e .moves, past blanks-local g .moves, past must-next o .moves)))))
   where
     P : Rule × Next → ℕ → Type 0
     P x k = i + suc (length (x .0 .1)) ≤ k
-
-    at-place : {A : Type 0} (P : A → ℕ → Type 0) (j : ℕ) (r : Read A) → Upto P r → Upto P (movedTo j r)
-    at-place P j (got a k) h = h
-    at-place P j none h = tt
-    at-place P j (refused k p) h = tt
 
 -- a rule's number of items, and tables with its records from a slot on
 abbrev pub kept : Tables → ℕ → Rule → ℕ × Tables
@@ -84,22 +80,21 @@ after-first {A} {B} f a s k = go (blanks s k)
 after-same : {A : Type 0} (a b : A) (s : List ℕ) (k l : ℕ) → a ≡ b → k ≡ l → afterRule a s k ≡ afterRule b s l
 after-same a b s k l e f = rw (e, f)
 
--- a value changed, with each refusal at a place
-moved-map : {A B : Type 0} (f : A → B) (j : ℕ) (s : List ℕ) (i l : ℕ) (x : Read A) → follow s i (movedTo j x) (λ a. pure (f a)) nothing ≡ movedTo j (follow s l x (λ a. pure (f a)) nothing)
-moved-map f j s i l (got a k) = refl
-moved-map f j s i l none = refl
-moved-map f j s i l (refused k p) = refl
-
 module _ (t t′ : Tables) (slot separator : ℕ) (s : List ℕ) (i : ℕ) where
   -- what a turn of the loop reads, from what a rule and what parts it from the next are read as
-  pub step : {j : ℕ} (y : RuleRead) {z : Read (ℕ × Next)} → blanks s i ≡ got tt j → ruleInto t slot separator s j ≡ seenRuleInto y t′ → movedTo j (follow s j (seenRule y) (λ h. afterRule (h .items)) nothing) ≡ z →
+  pub step : {j : ℕ} (y : RuleRead) {z : Read (ℕ × Next)} → blanks s i ≡ got tt j → ruleInto t slot separator s j ≡ seenRuleInto y t′ → follow s 0 (seenRule y) (λ h. afterRule (h .items)) nothing ≡ z →
       map (first (kept t slot)) (moreRules (Another separator)) s i ≡ follow s i z (λ x. pure (first (λ n. (n, t′)) x)) nothing
   unfolding moreRules parted
   step {j} y {z} e f g = rw (e, ← g) (go (rule separator s j) (rule-takes s separator j) y f)
     where
+      changed : {A B : Type 0} (f : A → B) (k : ℕ) (x : Read A) → follow s i x (λ a. pure (f a)) nothing ≡ follow s k x (λ a. pure (f a)) nothing
+      changed f k (got a l) = refl
+      changed f k none = refl
+      changed f k (refused l p) = refl
+
       go : (r : Read Rule) → Upto (λ r k. (r .0 .items ≡ length (r .1)) × (j + suc (length (r .1)) ≤ k)) r → (y : RuleRead) → follow s j r (λ x. pure (x .0, allKept t slot (ruleRecords x))) nothing ≡ seenRuleInto y t′ →
-          follow s i (movedTo j (follow s j r afterRule nothing)) (λ x. pure (first (kept t slot) x)) nothing
-          ≡ follow s i (movedTo j (follow s j (seenRule y) (λ h. afterRule (h .items)) nothing)) (λ x. pure (first (λ n. (n, t′)) x)) nothing
+          follow s i (follow s j r afterRule nothing) (λ x. pure (first (kept t slot) x)) nothing
+          ≡ follow s i (follow s 0 (seenRule y) (λ h. afterRule (h .items)) nothing) (λ x. pure (first (λ n. (n, t′)) x)) nothing
       go (got r k) h (read.Got head c) f =
           let a : _≡_ {A = Head × Tables} (r .0, allKept t slot (ruleRecords r)) (head, t′) = cc in
           let p : r .0 ≡ head = ap (λ (x : Head × Tables). x .0) a in
@@ -107,9 +102,9 @@ module _ (t t′ : Tables) (slot separator : ℕ) (s : List ℕ) (i : ℕ) where
           let m : k ≡ c .at = cc in
           let o : length (r .1) ≡ head .items = (let i : r .0 .items ≡ head .items = ap (λ (x : Head). x .items) p in omega (arith, h .0)) in
           let b : kept t slot r ≡ (head .items, t′) = ap (λ (n : ℕ). (n, allKept t slot (ruleRecords r))) o ∙ ap (λ (u : Tables). (head .items, u)) q in
-          moved-map (first (kept t slot)) j s i k (afterRule r s k)
-          ∙ ap (movedTo j) (sym (after-first (kept t slot) r s k) ∙ after-same (kept t slot r) (head .items, t′) s k (c .at) b m ∙ after-first (λ (n : ℕ). (n, t′)) (head .items) s (c .at))
-          ∙ sym (moved-map (first (λ (n : ℕ). (n, t′))) j s i (c .at) (afterRule (head .items) s (c .at)))
+          changed (first (kept t slot)) k (afterRule r s k)
+          ∙ sym (after-first (kept t slot) r s k) ∙ after-same (kept t slot r) (head .items, t′) s k (c .at) b m ∙ after-first (λ (n : ℕ). (n, t′)) (head .items) s (c .at)
+          ∙ sym (changed (first (λ (n : ℕ). (n, t′))) (c .at) (afterRule (head .items) s (c .at)))
       go (got r k) h (read.Refused l p) f = cc
       go none h (read.Got head c) f = cc
       go none h (read.Refused l p) f = cc

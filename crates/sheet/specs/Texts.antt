@@ -2,25 +2,16 @@
 use Prim.Native.Nat.{ℕ}
 use mathlib.Core.List.{List, [], _∷_, _++_, map}
 use lib.IntN.{ℤ}
-use Rattle.names.specs.Read.{Read, got, none, refused, Reader, nothing, pure, _>>=_, _>>_}
+use Rattle.names.specs.Read.{Reader, nothing, pure, _>>=_, _>>_}
 use Rattle.names.specs.Chain.{chain}
 use Rattle.names.specs.Texts.{blanks}
 use Rattle.records.specs.Words.{wordsOf}
 use Rattle.items.specs.Musts.{must}
-use Rattle.rules.specs.Rules.{Rule, rule, next}
+use Rattle.rules.specs.Separators.{next}
+use Rattle.rules.specs.Rules.{Rule, rule}
 use Rattle.rules.specs.declared.Next.{Next}
 use Rattle.rules.specs.declared.Next.the-variants.{Another, Finished}
 use Rattle.sheet.specs.Heads.{headWords}
-
--- a reading, with each refusal at the place p
-abbrev pub movedTo : {A : Type 0} → ℕ → Read A → Read A
-movedTo p (got a j) = got a j
-movedTo p none = none
-movedTo p (refused k q) = refused k p
-
--- a reader whose refusals are at the place where it begins
-abbrev pub placed : {A : Type 0} → Reader A → Reader A
-placed m s i = movedTo i (m s i)
 
 -- the blanks after a rule, and what parts it from the next
 abbrev pub afterRule : {A : Type 0} → A → Reader (A × Next)
@@ -39,7 +30,7 @@ parted separator = do
 unfoldable pub moreRules : Next → Reader (Rule × Next)
 moreRules (Another separator) = do
   blanks
-  placed (parted separator)
+  parted separator
 moreRules Finished = nothing
 
 -- there are no more rules where the text has ended

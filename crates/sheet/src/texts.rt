@@ -4,32 +4,36 @@ ghost use mathlib.Core.Path.{_≡_};
 ghost use lib.ListN.{length};
 ghost use Rattle.names.specs.Read.{follow, nothing};
 ghost use Rattle.rules.specs.Seen.{seenRule};
-ghost use Rattle.sheet.specs.Texts as texts;
+ghost use Rattle.sheet.specs.Texts.{afterRule};
 ghost use Rattle.sheet.specs.Into.{rulesInto};
 ghost use Rattle.sheet.specs.Seen.{seenParted, seenRulesInto};
 use crate::Counted;
 use crate::Parted;
 use crate::rule::fill_rule;
+use items::missing;
 use names::Cursor;
-use names::NO_SHAPE;
 use rules::Next;
 use rules::NextRead;
 use rules::RuleRead;
 use rules::next_rule;
 
-// The blanks after a rule that was read at c, and what parts it from the next. A refusal's place is the rule's.
-pub fn parted(s: &[u8], c: Cursor, r: RuleRead) -> Parted
-    ensures { λ x. ⌜ texts.movedTo (c .at) (follow (now (s .entry)) (c .at) (seenRule r) (λ h. texts.afterRule (h .items)) nothing) ≡ seenParted x ⌝ }
+// The blanks after a rule that was read, and what parts it from the next.
+pub fn parted(s: &[u8], r: RuleRead) -> Parted
+    ensures { λ x. ⌜ follow (now (s .entry)) 0 (seenRule r) (λ h. afterRule (h .items)) nothing ≡ seenParted x ⌝ }
 {
     match r {
         RuleRead::Got(h, d) => {
-            let behind = next_rule(s, d.blanks(s));
-            match behind {
-                NextRead::Got(n, e) => Parted::Got(h.items, n, e),
-                NextRead::Missing => Parted::Refused(NO_SHAPE, c.at),
+            let e = d.blanks(s);
+            let after = next_rule(s, e);
+            match after {
+                NextRead::Got(n, f) => Parted::Got(h.items, n, f),
+                NextRead::Missing => {
+                    let lack = missing(s, e);
+                    Parted::Refused(lack.number, lack.place)
+                }
             }
         }
-        RuleRead::Refused(k, _) => Parted::Refused(k, c.at),
+        RuleRead::Refused(k, p) => Parted::Refused(k, p),
     }
 }
 
@@ -43,7 +47,7 @@ pub fn fill_rules(s: &[u8], p: usize, words: &mut [i32], bytes: &mut [u8]) -> Co
     let mut separator: u8 = 0;
     loop {
         let c = Cursor { at }.blanks(s);
-        let r = parted(s, c, fill_rule(s, c, separator, words, bytes, slot));
+        let r = parted(s, fill_rule(s, c, separator, words, bytes, slot));
         match r {
             Parted::Got(items, behind, d) => {
                 slot += items + 1;

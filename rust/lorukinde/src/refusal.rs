@@ -2,8 +2,9 @@
 use std::error::Error;
 use std::fmt;
 
-/// A refusal: its number, and its place as bytes from the start of the sheet. For 3 to 9 that is where the rule at fault begins
-/// (behind the blanks before it), for 10 where the sheet or the part begins, for 1 and 2 it is 0.
+/// A refusal: its number, and its place as bytes from the start of the sheet. For 4 to 9 that is the first byte of the item at
+/// fault (its year's, if it has one; a week's number's), for 3 and 12 how far its rule could be read, for 11 where the empty rule
+/// begins (after the blanks before it), for 10 where the sheet or the part begins, for 1 and 2 it is 0.
 ///
 /// Its `Display` says in plain words what is wrong, for the one who wrote the sheet.
 #[derive(Clone, Copy, Debug, PartialEq, Eq, Hash)]
@@ -23,42 +24,49 @@ impl Refusal {
     pub const POINT_IN_TIME: u32 = 8;
     pub const EASTER_DAY: u32 = 9;
     pub const NO_ROOM: u32 = 10;
+    pub const EMPTY_RULE: u32 = 11;
+    pub const BROKEN_QUOTE: u32 = 12;
 }
 
-/// Where a rule begins, so that nobody has to ask whether bytes are counted from 0 or from 1.
-struct RuleAt(usize);
+/// Where something stands, so that nobody has to ask whether bytes are counted from 0 or from 1.
+struct At(usize);
 
-impl fmt::Display for RuleAt {
+impl fmt::Display for At {
     fn fmt(&self, f: &mut fmt::Formatter<'_>) -> fmt::Result {
         match self.0 {
-            0 => write!(f, "the rule at the start of the sheet"),
-            1 => write!(f, "the rule that begins 1 byte into the sheet"),
-            n => write!(f, "the rule that begins {n} bytes into the sheet"),
+            0 => write!(f, "at the start of the sheet"),
+            1 => write!(f, "1 byte into the sheet"),
+            n => write!(f, "{n} bytes into the sheet"),
         }
     }
 }
 
 impl fmt::Display for Refusal {
     fn fmt(&self, f: &mut fmt::Formatter<'_>) -> fmt::Result {
-        let rule = RuleAt(self.place);
+        let at = At(self.place);
         match self.number {
             Refusal::TOO_LONG => write!(f, "the sheet is longer than 4,096 bytes"),
             Refusal::NO_PART => write!(f, "no part of the sheet begins at the place that was asked for"),
-            Refusal::NO_SHAPE => write!(f, "{rule} cannot be read: something in it is missing, misspelled or out of order"),
+            Refusal::NO_SHAPE => write!(f, "{at} something is missing, misspelled or out of order"),
             Refusal::RANGE => {
-                write!(f, "a number in {rule} is outside what is allowed there, as a day 32, a week 54 or a minute 60 would be")
+                write!(
+                    f,
+                    "a number in the item {at} is outside what is allowed there, as a day 32, a week 54 or a minute 60 would be"
+                )
             }
-            Refusal::WEEK_STEP => write!(f, "the weeks in {rule} go in steps of more than 255"),
-            Refusal::YEARS_INVERTED => write!(f, "the years in {rule} run backwards: the first year is after the last"),
-            Refusal::WEEKS_INVERTED => write!(f, "the weeks in {rule} run backwards: the first week is after the last"),
+            Refusal::WEEK_STEP => write!(f, "the weeks in the item {at} go in steps of more than 255"),
+            Refusal::YEARS_INVERTED => write!(f, "the years in the item {at} run backwards: the first year is after the last"),
+            Refusal::WEEKS_INVERTED => write!(f, "the weeks in the item {at} run backwards: the first week is after the last"),
             Refusal::POINT_IN_TIME => {
-                write!(f, "{rule} names a single time, where it should say from when to when (10:00-12:00, or 10:00+)")
+                write!(f, "the item {at} is a single time, where it should say from when to when (10:00-12:00, or 10:00+)")
             }
             Refusal::EASTER_DAY => {
-                write!(f, "{rule} ends a span from easter with a day but no month (write easter-Apr 5, not easter-5)")
+                write!(f, "the item {at} ends a span from easter with a day but no month (write easter-Apr 5, not easter-5)")
             }
             Refusal::NO_ROOM => write!(f, "everything can be read, but it has more records than there is room for in the table"),
-            other => write!(f, "{rule} is refused with the number {other}, which this version has no words for"),
+            Refusal::EMPTY_RULE => write!(f, "the rule {at} is empty"),
+            Refusal::BROKEN_QUOTE => write!(f, "the quote {at} opens no comment: it is never closed, or nothing stands inside"),
+            other => write!(f, "what stands {at} is refused with the number {other}, which this version has no words for"),
         }
     }
 }

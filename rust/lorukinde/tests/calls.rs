@@ -75,7 +75,7 @@ fn few_and_many_records() {
 
         let mut table = marked(items + 2);
         let slip = [&sheet[..sheet.len() - 1], b"x"].concat();
-        assert_eq!(read_sheet(&slip, &mut table), Err(refusal(3, 0)), "{items}");
+        assert_eq!(read_sheet(&slip, &mut table), Err(refusal(3, sheet.len() - 2)), "{items}");
         assert_eq!(table, marked(items + 2), "{items}");
     }
 }
@@ -104,12 +104,12 @@ fn nothing_else_is_written() {
 
 #[test]
 fn empty_slices() {
-    assert_eq!(read_sheet(&[], &mut []), Err(refusal(3, 0)));
+    assert_eq!(read_sheet(&[], &mut []), Err(refusal(11, 0)));
     assert_eq!(read_sheet(b"off", &mut []), Err(refusal(10, 0)));
     let part = read_part(&[], 0, &mut []);
-    assert_eq!((part.reading, part.next), (Err(refusal(3, 0)), None));
+    assert_eq!((part.reading, part.next), (Err(refusal(11, 0)), None));
     assert_eq!(read_part(&[], 1, &mut []).reading, Err(refusal(2, 0)));
-    assert_eq!(parts(&[]).map(|part| (part.range, part.reading)).collect::<Vec<_>>(), [(0..0, Err(refusal(3, 0)))]);
+    assert_eq!(parts(&[]).map(|part| (part.range, part.reading)).collect::<Vec<_>>(), [(0..0, Err(refusal(11, 0)))]);
     assert_eq!(note(&[], &[], &head(0, 0)), b"");
 }
 
@@ -163,16 +163,19 @@ fn rules_and_items() {
 
 #[test]
 fn refusals_in_plain_words() {
-    let said: Vec<String> = (1..=10).map(|number| refusal(number, 12).to_string()).collect();
+    let said: Vec<String> = (1..=12).map(|number| refusal(number, 12).to_string()).collect();
     for (i, text) in said.iter().enumerate() {
-        let names_the_rule = text.contains("the rule that begins 12 bytes into the sheet");
-        assert_eq!(names_the_rule, (3..=9).contains(&(i + 1)), "{text}");
+        let has_no_place = [Refusal::TOO_LONG, Refusal::NO_PART, Refusal::NO_ROOM].contains(&(i as u32 + 1));
+        assert_eq!(text.contains("12 bytes into the sheet"), !has_no_place, "{text}");
+        assert_eq!(text.contains("the item 12 bytes into"), (4..=9).contains(&(i + 1)), "{text}");
         assert!(!said[..i].contains(text), "{text}");
     }
     assert_eq!(said[0], "the sheet is longer than 4,096 bytes");
-    assert!(refusal(3, 0).to_string().starts_with("the rule at the start of the sheet cannot be read"));
-    assert!(refusal(8, 1).to_string().contains("1 byte into"));
-    assert!(refusal(11, 1).to_string().contains("the number 11"));
+    assert!(refusal(Refusal::NO_SHAPE, 0).to_string().starts_with("at the start of the sheet something is missing"));
+    assert!(refusal(Refusal::POINT_IN_TIME, 1).to_string().contains("the item 1 byte into"));
+    assert_eq!(refusal(Refusal::EMPTY_RULE, 3).to_string(), "the rule 3 bytes into the sheet is empty");
+    assert!(refusal(Refusal::BROKEN_QUOTE, 5).to_string().contains("the quote 5 bytes into the sheet opens no comment"));
+    assert!(refusal(99, 1).to_string().contains("the number 99"));
     let error: Box<dyn std::error::Error + Send + Sync> = Box::new(refusal(6, 0));
     assert!(error.to_string().contains("run backwards"));
 }

@@ -92,7 +92,8 @@ fn exchange_line(two: &[u8], k: usize, room: usize) -> Vec<u8> {
 
 /// docs/DIFFERENCES.md, 6: the Rust ends on a day that the month lacks; here a bare end day is then in the next month.
 fn moved_to_the_next_month(ours: &[u8], rusts: &[u8]) -> bool {
-    let words = |line: &[u8]| -> Vec<i32> { String::from_utf8_lossy(line).split(' ').map(|word| word.parse().unwrap()).collect() };
+    let words =
+        |line: &[u8]| -> Vec<i32> { String::from_utf8_lossy(line).split(' ').map(|word| word.parse().unwrap()).collect() };
     let (ours, mut rusts) = (words(ours), words(rusts));
     if rusts[0] != 4 || rusts[8] != 1 {
         return false;

@@ -56,7 +56,7 @@ fn a_slip_loses_its_part_alone() {
         said("Mo-Fr 09:00-18:00; 2021-2020 off; Sa 10:00-16:00, Su || unknown"),
         [
             "open: Monday to Friday, 09:00 to 18:00",
-            "the years in the rule that begins 19 bytes into the sheet run backwards: the first year is after the last",
+            "the years in the item 19 bytes into the sheet run backwards: the first year is after the last",
             "open: Saturday, 10:00 to 16:00",
             "also open: Sunday",
             "otherwise unknown: always",

@@ -52,24 +52,32 @@ pub fn sheet_lines(sheet: &[u8], room: usize) -> Vec<Vec<u8>> {
     lines
 }
 
-/// The parts' answers as lines, by `next` from 0 on: six numbers, then each record.
+/// A part's answer as lines, six numbers and then each record; and where the next part begins.
+pub fn one_part(sheet: &[u8], begin: usize, room: usize) -> (Vec<Vec<u8>>, Option<usize>) {
+    let mut table = marked(room);
+    let part = read_part(sheet, begin, &mut table);
+    let mut answer = four(&part.reading);
+    answer.extend([part.next.unwrap_or(0) as i64, part.next.is_none().into()]);
+    let mut lines = vec![numbers(answer.clone())];
+    lines.extend(record_lines(&part.reading));
+    let next = part.next;
+    hold_rest(&table, answer[2] as usize, sheet);
+    (lines, next)
+}
+
+/// The parts' answers as lines, by `next` from 0 on.
 pub fn part_lines(sheet: &[u8], room: usize) -> Vec<Vec<u8>> {
     let mut lines = Vec::new();
     let mut begin = Some(0);
     while let Some(at) = begin {
-        let mut table = marked(room);
-        let part = read_part(sheet, at, &mut table);
-        let mut answer = four(&part.reading);
-        answer.extend([part.next.unwrap_or(0) as i64, part.next.is_none().into()]);
-        lines.push(numbers(answer.clone()));
-        lines.extend(record_lines(&part.reading));
-        begin = part.next;
-        hold_rest(&table, answer[2] as usize, sheet);
+        let (part, next) = one_part(sheet, at, room);
+        lines.extend(part);
+        begin = next;
     }
     lines
 }
 
-/// The places, up to one behind the end, where a part begins.
+/// The places, up to one after the end, where a part begins.
 pub fn place_line(sheet: &[u8], room: usize) -> Vec<u8> {
     let mut table = marked(room);
     let mut begins = |at: &usize| match read_part(sheet, *at, &mut table).reading {
@@ -85,4 +93,15 @@ pub fn lines_of(path: &str) -> std::io::Result<Vec<Vec<u8>>> {
     let text = std::fs::read(format!("{}/../../{path}", env!("CARGO_MANIFEST_DIR")))?;
     let text = text.strip_suffix(b"\n").unwrap_or(&text);
     Ok(text.split(|byte| *byte == b'\n').map(<[u8]>::to_vec).collect())
+}
+
+/// A text in which `\xNN` stands for one byte.
+pub fn bytes_of(text: &str) -> Vec<u8> {
+    let mut pieces = text.split("\\x");
+    let mut bytes = pieces.next().unwrap_or_default().as_bytes().to_vec();
+    for piece in pieces {
+        bytes.push(u8::from_str_radix(&piece[..2], 16).unwrap());
+        bytes.extend_from_slice(piece[2..].as_bytes());
+    }
+    bytes
 }

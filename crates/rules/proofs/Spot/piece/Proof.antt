@@ -48,17 +48,17 @@ piece-spec =
     (λ c. search needs)  -- enum-known-found
     (λ c. search needs)  -- enum-known-found-2
     (λ c. search needs)  -- enum-known-found-3
-    (λ c κs. search needs)  -- blanks-requires
+    (λ c κs. search needs)  -- lacking-requires
     (λ c. let t = c .before in let f = t .before .before in let l = f .before .before in
-    has l (t .if1 .taken) ∙ has-none _ _ _ (look l (f .found3 .given .1) .0) (c .blanks .ensures))  -- returns-2
+    has l (t .if1 .taken) ∙ has-none _ _ _ (look l (f .found3 .given .1) .0) ∙ c .lacking .ensures .0)  -- returns-2
     (λ c κs. search needs)  -- with-comment-requires
     (λ c. let e = c .before .before in let f = e .before .before in let l = f .before .before in let w = look l (f .found3 .given .1) in
     may l (e .if1 .left) ∙ may-modifier _ _ _ _ _ (w .0) (w .1) (c .before .if2 .taken) ∙ c .with-comment .ensures)  -- returns-3
     (λ c κs. search needs)  -- ended-requires-2
     (λ c. search needs)  -- enum-told-2
-    (λ c κs. search needs)  -- blanks-requires-2
+    (λ c κs. search needs)  -- lacking-requires-2
     (λ c. let t = c .before in let f = t .before in let l = f .before .before in
-    has l (t .if3 .taken) ∙ has-none _ _ _ (look l (f .enum-told2 .given .1) .0) (c .blanks2 .ensures))  -- returns-4
+    has l (t .if3 .taken) ∙ has-none _ _ _ (look l (f .enum-told2 .given .1) .0) ∙ c .lacking2 .ensures .0)  -- returns-4
     (λ c κs. search needs)  -- noted-requires
     (λ c. let f = c .before in let l = f .before .before in let a = start l .args in let g = l .before .before .turn2 .given .0 in
     on l ∙ turned-item (now (a .s)) (a .self .stage) (a .self .at) (g .0) (g .1 .0) (g .1 .1 .0) (look l (f .found .given .1)))  -- returns-5

@@ -1,7 +1,7 @@
 -- `rules::separators::bars` meets its contract.
 use borrow.Author.Needs.{needs}
 use Rattle.names.proofs.Facts.{Went, went}
-use Rattle.rules.specs.Rules.{bars}
+use Rattle.rules.specs.Separators.{bars}
 use Rattle.rules.proofs.separators.bars.Statement.{statement}
 use Rattle.rules.proofs.separators.bars.Tie as tie
 

@@ -4,7 +4,7 @@ use borrow.Author.Tests.{eq-eqb, ne-eqb}
 use mathlib.Core.Path.{sym}
 use Rattle.names.proofs.Facts.{Went, went}
 use Rattle.names.proofs.Laws.{ahead-is}
-use Rattle.rules.specs.Rules.{commaBlank}
+use Rattle.rules.specs.Separators.{commaBlank}
 use Rattle.rules.proofs.separators.comma_blank.Statement.{statement}
 use Rattle.rules.proofs.separators.comma_blank.Tie as tie
 

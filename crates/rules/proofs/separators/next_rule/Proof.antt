@@ -2,7 +2,7 @@
 use borrow.Author.Needs.{needs}
 use borrow.Author.Tests.{eq-eqb, ne-eqb}
 use Rattle.names.specs.Read.{atEnd}
-use Rattle.rules.specs.Rules.{next}
+use Rattle.rules.specs.Separators.{next}
 use Rattle.rules.proofs.separators.next_rule.Statement.{statement}
 use Rattle.rules.proofs.separators.next_rule.Tie as tie
 

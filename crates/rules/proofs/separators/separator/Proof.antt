@@ -1,7 +1,7 @@
 -- `rules::separators::separator` meets its contract.
 use borrow.Author.Needs.{needs}
 use Rattle.names.proofs.Facts.{Went, went}
-use Rattle.rules.specs.Rules.{separator}
+use Rattle.rules.specs.Separators.{separator}
 use Rattle.rules.proofs.separators.separator.Statement.{statement}
 use Rattle.rules.proofs.separators.separator.Tie as tie
 

@@ -1,0 +1,21 @@
+//! The cases of document 04: which number a refusal has, and where it stands.
+mod common;
+use common::{bytes_of, lines_of, one_part, sheet_lines};
+
+/// tools/readings_04.txt: section, Ask and call, sheet, answer, parted by byte 9. The first line says how it was made.
+#[test]
+fn the_documents_cases() {
+    let cases = lines_of("tools/readings_04.txt").unwrap();
+    for line in &cases[1..] {
+        let line = String::from_utf8_lossy(line);
+        let fields: Vec<&str> = line.split('\t').collect();
+        let (sheet, expected) = (bytes_of(fields[2]), fields[3].replace("more", "0").replace("last", "1"));
+        let got = match fields[1].split(' ').collect::<Vec<_>>()[..] {
+            [_] => sheet_lines(&sheet, 512),
+            [_, "part", begin] => one_part(&sheet, begin.parse().unwrap(), 512).0,
+            _ => panic!("no such call: {line}"),
+        };
+        assert_eq!(String::from_utf8_lossy(&got[0]), expected, "{line}");
+    }
+    assert!(cases.len() > 60);
+}
