@@ -28,7 +28,7 @@ extern "C" {
  *   7 holiday   1 public, 2 school; day offset
  *   8 span      start kind, start, end kind, end, repeat in minutes or -1, open end 0/1
  *
- * Comment starts count from the sheet's first byte, inside the quote. */
+ * Comment starts count from the sheet's first byte, inside the quote. A comment is well-formed UTF-8. */
 #define LORUKINDE_RECORD_BYTES 64
 #define LORUKINDE_SHEET_BYTES 4096
 
@@ -48,13 +48,14 @@ enum {
     LORUKINDE_EASTER_DAY = 9,     /* bare day after easter; the item's first byte */
     LORUKINDE_NO_ROOM = 10,       /* all else good, more records than whole 64-byte groups in the table; the text's first byte */
     LORUKINDE_EMPTY_RULE = 11,    /* no shape fits: an empty rule; where it begins */
-    LORUKINDE_BROKEN_QUOTE = 12   /* no shape fits: a quote, and after it another one or none at all; read so far */
+    LORUKINDE_BROKEN_QUOTE = 12,  /* no shape fits: a quote, and after it another one or none at all; read so far */
+    LORUKINDE_ILL_FORMED_COMMENT = 13 /* a comment that is not well-formed UTF-8 (RFC 3629); its first quote */
 };
 
 /* Reads a sheet. The number is returned; place, records and warnings are stored.
  * The numbers are those of the reading of the sheet with a table of table_len / 64 records. The table afterwards is the table
  * before with the records written over it from its first byte on, 64 bytes each: every other byte is unchanged.
- * Every refusal (1, 3 to 12) gives 0 records and 0 warnings and changes no byte of the table. */
+ * Every refusal (1, 3 to 13) gives 0 records and 0 warnings and changes no byte of the table. */
 uint32_t lorukinde_read_sheet(const uint8_t *sheet, size_t sheet_len, uint8_t *table, size_t table_len, uint32_t *place,
                               uint32_t *records, uint32_t *warnings);
 

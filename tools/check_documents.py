@@ -11,7 +11,7 @@ import sys
 
 from reference import bytes_of, chain, read_part, read_sheet
 
-IN_FORCE = {1, 8}
+IN_FORCE = {1, 3, 8}
 CHANGES = (1, 3, 7, 8, 9, 12)  # the Asks after which a sheet or a part is read otherwise
 WORDS = 8192
 NO = [0] * 16

@@ -174,6 +174,21 @@ def odd_bytes():
     return out
 
 
+def letters():
+    """comments of letters from every row of RFC 3629's table and from outside it, at its edges, cut short and beside others"""
+    leads = [0x41, 0x7f, 0x80, 0xbf, 0xc0, 0xc1, 0xc2, 0xdf, 0xe0, 0xe1, 0xec, 0xed, 0xee, 0xef, 0xf0, 0xf1, 0xf3, 0xf4, 0xf5, 0xf7, 0xf8, 0xfe]
+    some = [bytes([lead, second, *rest]) for lead in leads[6:] for second in (0x7f, 0x80, 0x8f, 0x90, 0x9f, 0xa0, 0xbf, 0xc0) for rest in [b"", b"\x80", b"\x80\xbf"][:1 + (lead >= 0xe0) + (lead >= 0xf0)]]
+    some += [bytes([lead]) for lead in leads]
+    good = ["\u00e9", "\u20ac", "\ufeff", "\uffff", "\U0001d11e", "\U0010ffff"]
+    some += [c.encode() + end for c in good for end in (b"", b"a", b"\x80", b"\xbf\xbf")]
+    some += [c.encode()[:n] + rest for c in good for n in range(1, len(c.encode())) for rest in (b"", b"a", b"\xe2\x82\xac")]
+    some += [(a + b).encode() for a in good for b in good]
+    some += [b"ab\xf0\x9d\x84\x9ec\xe2\x82\xacd\xc3\xa9" + end for end in (b"", b"\xff", b"\xc3", b"\xe2\x82", b"\xf0\x9d\x84")]
+    out = [line(b'"' + x + b'"') for x in some]
+    places = ['%s', ' %s ', '%sx', '%s: Mo', '%s:Mo', '%s: Mo "x"', '"x": Mo %s', '"x": %s', 'Mo %s', 'Mo%s', 'Mo off %s', 'off %s "', 'Mo %s ""', '%s""', '"x" %s', '10:00 %s', '%s; 10:00', 'Mo;%s;Tu', 'Mo, %s', 'Mo %s;Tu "\\xc3\\xa9"']
+    return out + [line(p % c, "A") for p in places for c in ('"\\xff"', '"a;\\xc3"', '"\\xff', '"\\xff\\x01"')]
+
+
 def quotes():
     out = ['"', '""', '"""', '""""', '"a', 'a"', '"a"b"', '"a""b"', '"a" "b"', 'Mo "a;b"; Tu "c;d"', 'Mo";Tu', 'Mo ";Tu";We', 'Mo "";Tu', ';"', '";', '";";', 'Mo;"a', 'Mo;"a;Tu', '"a;"', '"a;";', '"a":;Mo', '"a;b": Mo;Tu', 'Mo "a"; "b": Tu "c"; off "d"', ';', ';;', ';;;', ' ; ; ', 'Mo;', ';Mo', 'Mo "a\\x01;b"; Tu', 'Mo "a, b || c", Tu "d" || We "e"', '"a"||"b"', '"a", "b"', '"a","b"', 'Mo "a" ;Tu', 'Mo "a";Tu "b";We "c";Th "d"']
     return [line(s, "A") for s in out]
@@ -195,7 +210,7 @@ def long_sheets():
 def exchanges():
     """one part exchanged for bytes whose quotes pair and whose semicolons stand inside quotes"""
     base = ['Mo;Tu;We', 'Mo "a";x;Tu "b" ', ' mo 10:00-12:00;"a;b": TU; 1899 ;off "c"', 'Mo "";;"d"', 'Mo;2021-2020, Tu;We "e", Th || Fr "f"', '10:00+;"g\\x01;"; Tu "h;i"; ']
-    new = ["", "x", "Th 10:00-12:00 off", '"n;o"', '"";"', ' "p": Fr, Sa || Su ', "1899", '\\x00"\\x01"', "Mo,Tu,We,Th,Fr,Sa,Su"]
+    new = ["", "x", "Th 10:00-12:00 off", '"n;o"', '"\\xff;"', '"";"', ' "p": Fr, Sa || Su ', "1899", '\\x00"\\x01"', "Mo,Tu,We,Th,Fr,Sa,Su"]
     cut = re.compile(r'(?:[^";]|"[^"]*")*')
     out = []
     for sheet in base:
@@ -225,7 +240,7 @@ def sample():
 ORIGINS = {
     "documents": lambda: sheets_of("documents.txt"), "readings": readings_04, "specification": lambda: sheets_of("specification.txt"),
     "transitions": transitions, "joints": joints, "order of pieces": triples, "ranges": ranges, "orders": orders, "bare days": bare_days, "marks": marks, "names": names, "refusals": refusals, "slips": slips,
-    "tables": tables, "blanks": blanks, "odd bytes": odd_bytes, "quotes": quotes, "long sheets": long_sheets, "exchanges": exchanges, "notes": notes,
+    "tables": tables, "blanks": blanks, "odd bytes": odd_bytes, "letters": letters, "quotes": quotes, "long sheets": long_sheets, "exchanges": exchanges, "notes": notes,
     "the Rust's answers": sample,
 }
 

@@ -6,7 +6,8 @@
     reference.py sheets FILE    each line a sheet (\\xNN for one byte): writes its answer and records.
     reference.py cases FILE     each line a case of crates/cases (its form: see `case`): writes what the program is to write.
     reference.py readings FILE  document 03, whose lines show a sheet and its answer, - `sheet` → **n p r w**: writes those that are read otherwise. Of a
-                                refusal from 3 to 9 the place is not asked, and 11 and 12 count as 3, since Ask 1 has changed these.
+                                refusal from 3 to 9 the place is not asked, and 11 and 12 count as 3, since Ask 1 has changed these; a sheet with an
+                                ill-formed comment is left out.
 
 Shapes are regular expressions over bytes: every shape is tried and the longest that stands complete is taken. Needs Python 3.11.
 """
@@ -241,6 +242,17 @@ def skip(s, i):
     return BLANK.match(s, i).end()
 
 
+def comment(s, i):
+    """the comment at i, judged when its closing quote is read: its bytes have to be well-formed UTF-8, which Python's decoder takes as RFC 3629 has it"""
+    c = COMMENT.match(s, i)
+    if c:
+        try:
+            c.group(1).decode("utf-8")
+        except UnicodeDecodeError:
+            raise Refused(13, i) from None
+    return c
+
+
 class NoShape(Exception):
     """nothing that may follow stands at this place: the first byte after what was completed last, and its blanks"""
 
@@ -251,13 +263,13 @@ def no_shape_after(s, i):
 
 def modifier(s, i):
     """(state, comment start, length, place after), or None"""
-    c = COMMENT.match(s, i)
+    c = comment(s, i)
     if c:
         return 0, i + 1, len(c.group(1)), c.end()
     m = MODIFIER.match(s, i)
     if not m:
         return None
-    c = COMMENT.match(s, skip(s, m.end())) if skip(s, m.end()) > m.end() else None
+    c = comment(s, skip(s, m.end())) if skip(s, m.end()) > m.end() else None
     if c:
         return STATE[m.group(1).lower()], c.start() + 1, len(c.group(1)), c.end()
     return STATE[m.group(1).lower()], 0, 0, m.end()
@@ -306,7 +318,7 @@ def rule(s, i):
         i += 4
         more = ()
     else:
-        c = COMMENT.match(s, i)
+        c = comment(s, i)
         if c and s[c.end():c.end() + 1] == b":":
             wide = (i + 1, len(c.group(1)))
             more = colon(s, c.end(), out)
@@ -555,11 +567,10 @@ def as_before(number, place, *rest):
 
 
 def other_readings(lines):
-    found = [m for m in map(READING.match, lines) if m]
-
     def said(sheet):
         number, place, records, warned = read_sheet(bytes_of(sheet), 8192)
         return as_before(number, place, len(records), warned)
+    found = [m for m in map(READING.match, lines) if m and said(m.group(1))[0] != 13]
     other = [m for m in found if said(m.group(1)) != as_before(*map(int, m.group(2).split()))]
     return [m.group() for m in other] + [b"%d sheets, %d read otherwise" % (len(found), len(other))]
 

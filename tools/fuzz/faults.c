@@ -1,4 +1,4 @@
-/* Faults planted round the entries, to show that the fuzzer finds them: FAULT=1 to 32 in the environment, 0 for none. Linked with
+/* Faults planted round the entries, to show that the fuzzer finds them: FAULT=1 to 34 in the environment, 0 for none. Linked with
  * -Wl,--wrap=lorukinde_read_sheet,--wrap=lorukinde_read_part,--wrap=lorukinde_note, so the library itself stays as it is. */
 #include <stdlib.h>
 #include <string.h>
@@ -44,6 +44,8 @@ uint32_t __wrap_lorukinde_read_sheet(const uint8_t *sheet, size_t n, uint8_t *ta
     case 30: if (number == LORUKINDE_BROKEN_QUOTE) number = LORUKINDE_NO_SHAPE; break;
     case 31: *place -= number == LORUKINDE_NO_SHAPE && *place > 0 && sheet[*place - 1] == ' '; break; /* a blank is not passed */
     case 32: *place -= number == LORUKINDE_WEEKS_INVERTED ? 5 : 0; break; /* the place of `week` for its number's */
+    case 33: *place += number == LORUKINDE_ILL_FORMED_COMMENT; break;     /* the place inside the quotes */
+    case 34: if (number == LORUKINDE_ILL_FORMED_COMMENT) number = LORUKINDE_NO_SHAPE; break;
     }
     return number;
 }

@@ -126,7 +126,7 @@ struct answer {
     const uint8_t *table;
 };
 
-enum { ANSWERS = LORUKINDE_BROKEN_QUOTE + 1 };
+enum { ANSWERS = LORUKINDE_ILL_FORMED_COMMENT + 1 };
 static uint64_t calls, sheet_numbers[ANSWERS], part_numbers[ANSWERS], notes[2], records_seen, warnings_seen;
 
 static int32_t word(const uint8_t *record, int i)
@@ -205,6 +205,35 @@ static bool item(const uint8_t *r)
     return good;
 }
 
+static bool comment_bytes(const uint8_t *s, size_t n)
+{
+    bool good = n > 0;
+    for (size_t i = 0; good && i < n; i++)
+        good = s[i] >= 32 && s[i] != '"';
+    return good;
+}
+
+/* whether so many bytes are letters in their shortest form, none of them a surrogate or above 10FFFF */
+static bool well_formed(const uint8_t *s, size_t n)
+{
+    for (size_t i = 0; i < n;) {
+        size_t more = s[i] < 0x80 ? 0 : s[i] < 0xc0 ? 4 : s[i] < 0xe0 ? 1 : s[i] < 0xf0 ? 2 : s[i] < 0xf8 ? 3 : 4;
+        if (more > 3 || more >= n - i)
+            return false;
+        uint32_t letter = more ? s[i] & (0x3fu >> more) : s[i];
+        for (size_t k = 1; k <= more; k++) {
+            if ((s[i + k] & 0xc0) != 0x80)
+                return false;
+            letter = letter << 6 | (s[i + k] & 0x3fu);
+        }
+        static const uint32_t least[] = {0, 0x80, 0x800, 0x10000};
+        if (letter < least[more] || letter > 0x10ffff || (letter >= 0xd800 && letter <= 0xdfff))
+            return false;
+        i += 1 + more;
+    }
+    return true;
+}
+
 /* a head's words, for a text from `begin` to `end`; its comment stands between two quotes */
 static bool head(const uint8_t *r, bool first, const uint8_t *s, size_t begin, size_t end)
 {
@@ -215,9 +244,7 @@ static bool head(const uint8_t *r, bool first, const uint8_t *s, size_t begin, s
     if (n == 0)
         return good && start == 0;
     good = good && n > 0 && start > (int32_t)begin && (size_t)start + (size_t)n < end && s[start - 1] == '"' && s[start + n] == '"';
-    for (int32_t i = 0; good && i < n; i++)
-        good = s[start + i] >= 32 && s[start + i] != '"';
-    return good;
+    return good && comment_bytes(s + start, (size_t)n) && well_formed(s + start, (size_t)n);
 }
 
 static bool one_of(uint8_t b, const char *some)
@@ -247,6 +274,13 @@ static bool broken_quote(const uint8_t *s, size_t end, size_t i)
     return i < end && s[i] == '"' && (!memchr(s + i + 1, '"', end - i - 1) || s[i + 1] == '"');
 }
 
+/* whether a comment stands at i that is not well-formed */
+static bool ill_formed_comment(const uint8_t *s, size_t end, size_t i)
+{
+    const uint8_t *closing = i < end && s[i] == '"' ? memchr(s + i + 1, '"', end - i - 1) : NULL;
+    return closing && comment_bytes(s + i + 1, (size_t)(closing - s) - i - 1) && !well_formed(s + i + 1, (size_t)(closing - s) - i - 1);
+}
+
 /* whether an item can begin at i */
 static bool item_begins(const uint8_t *s, size_t begin, size_t end, size_t i)
 {
@@ -272,6 +306,7 @@ static bool place_good(uint32_t number, size_t place, const uint8_t *s, size_t b
     case LORUKINDE_NO_SHAPE:
     case LORUKINDE_EMPTY_RULE:
     case LORUKINDE_BROKEN_QUOTE: return (place == end || s[place] != ' ') && number == no_shape(s, begin, end, place);
+    case LORUKINDE_ILL_FORMED_COMMENT: return ill_formed_comment(s, end, place);
     default: return item_begins(s, begin, end, place);
     }
 }
@@ -544,7 +579,10 @@ static void comment(void)
 {
     put("\"");
     for (size_t n = 1 + below(8); n > 0; n--)
-        PICK("a", ";", " ", ",", "||", "\xc3\xa9", "\xff", "Mo", "x:");
+        if (chance(3))
+            PICK("\xff", "\xc0\xaf", "\xed\xa0\x80", "\xf4\x90\x80\x80", "\xe2\x82", "\x80");
+        else
+            PICK("a", ";", " ", ",", "||", "\xc3\xa9", "\xe2\x82\xac", "\xf0\x9d\x84\x9e", "Mo", "x:");
     put("\"");
 }
 

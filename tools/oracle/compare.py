@@ -213,8 +213,11 @@ class Tally:
         records = lines[1:]
         ours = number, records, warnings
         names = []
-        if line == b"refused\tnot UTF-8" or number == 1 and len(s) > 4096:  # outside the domain of equality
-            self.counts["not compared: " + ("over 4,096 bytes" if number == 1 else "not UTF-8, which the Rust cannot be given")] += 1
+        if number == 1 and len(s) > 4096:  # outside the domain of equality
+            self.counts["not compared: over 4,096 bytes"] += 1
+            return
+        if number and line == b"refused\tnot UTF-8":  # the Rust takes text; here no sheet is accepted that is none
+            self.counts["not compared: not UTF-8, which the Rust cannot be given, and refused here"] += 1
             return
         self.seen.add(s)
         self.numbers[number] += 1

@@ -203,7 +203,7 @@ module _ {Q : Tail} {u : List ℕ} where
   map-local f′ f h M = then-moved (λ x. pure (f′ x)) (λ x. pure (f x)) M (λ x. rw (h x) (pure-local (f x)))
 
   -- one reader or another
-  pub or-local : {A : Type 0} {sh : ℕ → A → A} {a c : Bool} {k : ℕ} {m′ m n′ n : Reader A} → Local Q sh u a c k m′ m → Local Q sh u a c k n′ n → Local Q sh u a c k (branch m′ pure n′) (branch m pure n)
+  pub or-local : {A : Type 0} {p : ℕ} {sh : ℕ → A → A} {a c : Bool} {k : ℕ} {m′ m n′ n : Reader A} → Local Q sh u a c k m′ m → LocalFrom p Q sh u a c k n′ n → LocalFrom p Q sh u a c k (branch m′ pure n′) (branch m pure n)
   or-local M N = loose (branch-moved pure pure M (λ x. pure-local x) (loose N (omega arith))) (omega arith)
 
   -- a reader, or a value

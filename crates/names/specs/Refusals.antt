@@ -49,6 +49,10 @@ emptyRule = 11
 abbrev pub brokenQuote : ℕ
 brokenQuote = 12
 
+-- a comment that is not well-formed UTF-8
+abbrev pub illFormedComment : ℕ
+illFormedComment = 13
+
 -- the greatest
 abbrev pub greatest : ℕ
-greatest = brokenQuote
+greatest = illFormedComment

@@ -9,6 +9,7 @@ mod texts;
 pub use refusals::BROKEN_QUOTE;
 pub use refusals::EASTER_DAY;
 pub use refusals::EMPTY_RULE;
+pub use refusals::ILL_FORMED_COMMENT;
 pub use refusals::NO_PART;
 pub use refusals::NO_ROOM;
 pub use refusals::NO_SHAPE;

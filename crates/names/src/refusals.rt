@@ -34,3 +34,6 @@ pub const EMPTY_RULE: u8 = 11;
 
 // a quote, and after it another one or none at all
 pub const BROKEN_QUOTE: u8 = 12;
+
+// a comment that is not well-formed UTF-8
+pub const ILL_FORMED_COMMENT: u8 = 13;

@@ -1,9 +1,8 @@
 -- No second answer meets a promise: an answer is known by what it says.
-use Prim.Native.Nat.{ℕ}
-use mathlib.Core.Path.{_≡_, refl, ap, _∙_}
-use Rattle.rules.specs.Seen.{seenComment, seenPiece, thenOpening, seenNext, seenRule}
-use Rattle.rules.specs.declared.Opening.{Opening}
-use Rattle.rules.specs.declared.OpeningThen.{OpeningThen}
+use mathlib.Core.Path.{_≡_, refl, ap}
+use Rattle.rules.specs.Seen.{seenComment, seenPiece, seenOpening, seenNext, seenRule}
+use Rattle.rules.specs.declared.OpeningRead.{OpeningRead}
+use Rattle.rules.specs.declared.OpeningRead.the-variants as opening
 use Rattle.rules.specs.declared.CommentRead.{CommentRead}
 use Rattle.rules.specs.declared.CommentRead.the-variants as comment
 use Rattle.records.specs.declared.Item.{Item}
@@ -19,8 +18,13 @@ use Rattle.rules.specs.declared.RuleRead.the-variants as rule
 pub comment-apart : (x y : CommentRead) → seenComment x ≡ seenComment y → x ≡ y
 comment-apart (comment.Got a c) (comment.Got b d) e = let h : c .at ≡ d .at = cc in let k : a ≡ b = cc in rw (k, h)
 comment-apart (comment.Got a c) comment.Missing e = cc
+comment-apart (comment.Got a c) (comment.Refused k p) e = cc
 comment-apart comment.Missing (comment.Got b d) e = cc
 comment-apart comment.Missing comment.Missing e = refl
+comment-apart comment.Missing (comment.Refused k p) e = cc
+comment-apart (comment.Refused k p) (comment.Got b d) e = cc
+comment-apart (comment.Refused k p) comment.Missing e = cc
+comment-apart (comment.Refused k p) (comment.Refused l q) e = cc
 
 pub piece-apart : (x y : Piece) → seenPiece x ≡ seenPiece y → x ≡ y
 piece-apart (piece.Item a k c) (piece.Item b l d) e =
@@ -41,10 +45,11 @@ next-apart (next.Got a c) next.Missing e = cc
 next-apart next.Missing (next.Got b d) e = cc
 next-apart next.Missing next.Missing e = refl
 
-pub opening-apart : (x y : OpeningThen) → thenOpening x ≡ thenOpening y → x ≡ y
-opening-apart x y e =
-    let h : x .next .at ≡ y .next .at = cc in let k : x .opening ≡ y .opening = cc in
-    ap (λ (o : Opening). record { opening = o; next = x .next }) k ∙ ap (λ (i : ℕ). record { opening = y .opening; next = record { at = i } }) h
+pub opening-apart : (x y : OpeningRead) → seenOpening x ≡ seenOpening y → x ≡ y
+opening-apart (opening.Got a c) (opening.Got b d) e = let h : c .at ≡ d .at = cc in let k : a ≡ b = cc in rw (k, h)
+opening-apart (opening.Got a c) (opening.Refused k p) e = cc
+opening-apart (opening.Refused k p) (opening.Got b d) e = cc
+opening-apart (opening.Refused k p) (opening.Refused l q) e = cc
 
 pub rule-apart : (x y : RuleRead) → seenRule x ≡ seenRule y → x ≡ y
 rule-apart (rule.Got a c) (rule.Got b d) e = let h : c .at ≡ d .at = cc in let k : a ≡ b = cc in rw (k, h)

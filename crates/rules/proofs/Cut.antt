@@ -6,18 +6,19 @@ use mathlib.Core.Bool.{Bool, true, false, _||_}
 use mathlib.Core.Path.{_≡_, refl, sym, ap, _∙_}
 use native.Mathlib.Omega.{arith}
 use native.Mathlib.Decide.{decLt}
-use borrow.Author.Tests.{eq-eqb, ne-eqb}
-use lib.Dec.{eqb}
+use native.Mathlib.Nat.{add-suc}
+use borrow.Author.Tests.{eq-eqb, ne-eqb, ltb-true}
+use lib.Dec.{ltb, eqb}
 use lib.ListN.{length, getD, length-append, List·getD-append}
 use lib.Seq.{getD-append-add, getD-at}
 use Rattle.names.specs.Tests.{if_then_else_}
-use Rattle.names.specs.Read.{Read, got, none, refused, Reader, follow, branch, nothing, pure, refuse, here, one}
+use Rattle.names.specs.Read.{Read, got, none, refused, Reader, follow, branch, nothing, pure, refuse, here, when, only, one}
 use Rattle.names.specs.Chain.{skip, chain}
 use Rattle.names.specs.Texts.{byte, bytes}
-use Rattle.names.specs.Refusals.{emptyRule}
+use Rattle.names.specs.Refusals.{emptyRule, illFormedComment}
 use Rattle.names.specs.Names as names
-use Rattle.names.proofs.Local.{Tail as Tails, Behind, stop-end, stop-at, Side, At, compare-add, look-local, Ended, Stop, moved, keep, Local, past, past-one, narrow, loose, free, by, nothing-local, pure-local, refuse-local, here-local, here-then, branch-moved, bind-local, then-local, then-moved, map-local, or-local, maybe-local, inner-local, quote-local, ahead-local, only-local}
-use Rattle.names.proofs.Ended.{one-ended, byte-ended, atEnd-ended}
+use Rattle.names.proofs.Local.{Tail as Tails, Behind, stop-end, stop-at, Side, At, compare-add, look-local, Ended, Stop, moved, keep, LocalFrom, Local, past-one, narrow, loose, free, by, nothing-local, pure-local, refuse-local, here-local, here-then, branch-moved, bind-local, then-local, then-moved, map-local, or-local, maybe-local, inner-local, quote-local, ahead-local, only-local}
+use Rattle.names.proofs.Ended.{byte-ended, atEnd-ended}
 use Rattle.names.proofs.Chains.{step-moves, chain-moves, chain-local, chain-takes, many-local}
 use Rattle.names.proofs.Cut.{byte-local, blanks-local, blank-local, comma-local}
 use Rattle.names.proofs.NameCut.{plain, allOf-local, name-local}
@@ -25,7 +26,9 @@ use Rattle.records.specs.declared.Item.{Item}
 use Rattle.items.specs.Kinds.{apart}
 use Rattle.items.specs.declared.Kind.{Kind}
 use Rattle.items.proofs.Cut.{missing-local, must-local, itemIn-alike}
-use Rattle.rules.specs.Comments.{commentOf, noComment, isInner, comment, commentApart}
+use Rattle.utf8.specs.Letters.{isInner, letters}
+use Rattle.utf8.proofs.Cut.{letters-local}
+use Rattle.rules.specs.Comments.{commentOf, noComment, closed, illFormed, comment, commentApart}
 use Rattle.rules.specs.Modifiers.{tailOf, withComment, modifier}
 use Rattle.rules.specs.Rows.{small, first, listed, following, isWide}
 use Rattle.rules.specs.Pieces.{empty, itemFrom, goesOn, afterColon, colonSign, colon, more, plainEnd, end}
@@ -38,7 +41,6 @@ use Rattle.rules.specs.declared.Stage.the-variants.{Beginning, Always, C
 use Rattle.rules.specs.declared.Tail.{Tail}
 use Rattle.rules.specs.declared.Head.{Head}
 use Rattle.rules.specs.declared.Next.the-variants.{Another, Finished}
-use Rattle.rules.proofs.Laws.{skip-ended}
 
 -- ---- values that hold a place
 
@@ -80,6 +82,12 @@ found-then P s i f (got a j) h = h a j refl
 found-then P s i f none h = tt
 found-then P s i f (refused k p) h = tt
 
+-- of one reader or another, both are
+pub found-or : {A : Type 0} (P : A → Type 0) (s : List ℕ) (i : ℕ) (r : Read A) (n : Reader A) → Found P r → Found P (n s i) → Found P (follow s i r pure n)
+found-or P s i (got a j) n h k = h
+found-or P s i none n h k = k
+found-or P s i (refused e p) n h k = tt
+
 -- values that are found move in another way that comes to the same
 by-found : {A : Type 0} {Q : Tails} {sh sh₂ : ℕ → A → A} {u : List ℕ} {a c : Bool} {k : ℕ} {m′ m : Reader A} →
     Local Q sh u a c k m′ m → ((s : List ℕ) (i : ℕ) → Found (λ x. sh (length u) x ≡ sh₂ (length u) x) (m s i)) → Local Q sh₂ u a c k m′ m
@@ -99,35 +107,60 @@ start-moves : (n l start : ℕ) → 0 < l → n + start ≡ startMoves n l start
 start-moves n zero start h = absurd (omega arith)
 start-moves n (suc l) start h = refl
 
--- a comment that is found has bytes
-comment-found : (n : ℕ) (s : List ℕ) (i : ℕ) → Found (λ c. shifted n c ≡ commentMoves n c) (comment s i)
-unfolding comment
-comment-found n s i =
-    found-then _ s i _ (byte 34 s i) (λ _ j _.
-    found-then _ s j _ (one isInner s j) (λ _ k e.
-    found-then _ s k _ (skip isInner s k) (λ _ l f.
-    found-then _ s l _ (byte 34 s l) (λ _ _ _. rw (start-moves n (l - j) j (omega (arith, past-one (one-ended {a = true} {c = true} isInner) e, past (skip-ended {a = true} isInner) f)))))))
+-- a test that let pass passed
+only-was : (t : Bool) (i j : ℕ) → when t (got (tt {0}) i) ≡ got tt j → t ≡ true
+only-was true i j e = refl
+only-was false i j e = cc
+
+-- a comment that is found has bytes, and stands in its text
+module _ (P : Comment → Type 0) (s : List ℕ) (has : (start end : ℕ) → start < end → end < length s → P (commentOf start (end - start))) where
+  closed-has : (start i : ℕ) → Found P (closed start s i)
+  unfolding closed
+  closed-has start i =
+      found-then P s i _ (byte 34 s i) (λ _ j e.
+      found-then P s j _ (only (ltb start i) s j) (λ _ k f. has start i (ltb-true start i (only-was (ltb start i) j k f)) (omega (arith, past-one (byte-ended {a = true} {c = true} 34) e))))
+
+  illFormed-has : (p i : ℕ) → Found P (illFormed p s i)
+  unfolding illFormed
+  illFormed-has p i = found-then P s i _ (one isInner s i) (λ _ j _. found-then P s j _ (skip isInner s j) (λ _ k _. found-then P s k _ (byte 34 s k) (λ _ _ _. tt)))
+
+  pub comment-has : (i : ℕ) → Found P (comment s i)
+  unfolding comment
+  comment-has i = found-then P s i _ (byte 34 s i) (λ _ j _. found-then P s j _ (letters s j) (λ _ k _. found-or P s k (closed j s k) (illFormed i) (closed-has j k) (illFormed-has i k)))
 
 -- between the quotes a `;` is a byte like others
 inner-skip : {u : List ℕ} → Local Stop keep u true true 0 (skip isInner) (skip isInner)
 unfolding skip isInner
 inner-skip = map-local _ _ (λ x. refl) (many-local (inner-local isInner refl))
 
--- two places that move stay as far apart
+-- two places that move stay as far apart, and in order
 same-length : (n start end : ℕ) → n + end - (n + start) ≡ end - start
 same-length n start end = omega arith
 
+same-order : (n start end : ℕ) → ltb (n + start) (n + end) ≡ ltb start end
+same-order n start end = rw (← add-suc n start, compare-add n (suc start) end)
+
+-- the closing quote, after characters and after other bytes
+closed-local : {u : List ℕ} (start : ℕ) → Local Stop shifted u true false 1 (closed (length u + start)) (closed start)
+unfolding closed
+closed-local {u} start =
+    let f : ℕ → ℕ → Reader Comment = λ start end. branch (byte 34) (λ _. branch (only (ltb start end)) (λ _. pure (commentOf start (end - start))) nothing) nothing in
+    loose (branch-moved {k = 0} {l = 1} (f (length u + start)) (f start) here-local (λ end.
+    rw (same-order (length u) start end, same-length (length u) start end) (then-local (quote-local true) (λ _. then-local (only-local (ltb start end)) (λ _. pure-local (commentOf start (end - start)))))) nothing-local) (omega arith)
+
+illFormed-local : {u : List ℕ} (p : ℕ) → LocalFrom p Stop shifted u true false 1 (illFormed (length u + p)) (illFormed p)
+unfolding illFormed isInner
+illFormed-local p = then-local (inner-local isInner refl) (λ _. then-local inner-skip (λ _. then-local (free (quote-local true)) (λ _. refuse-local illFormedComment p (omega arith))))
+
 comment-shifted : {u : List ℕ} → Local Stop shifted u false false 1 comment comment
-unfolding comment isInner
+unfolding comment
 comment-shifted {u} =
-    let g : ℕ → ℕ → Reader Comment = λ start end. branch (byte 34) (λ _. pure (commentOf start (end - start))) nothing in
-    let f : ℕ → Reader Comment = λ start. branch (one isInner) (λ _. branch (skip isInner) (λ _. branch here (g start) nothing) nothing) nothing in
-    then-local (quote-local false) (λ _. then-moved f f here-local (λ start.
-    then-local (free (inner-local isInner refl)) (λ _. then-local inner-skip (λ _. then-moved (g (length u + start)) (g start) here-local (λ end.
-    then-local (free (quote-local true)) (λ _. rw (same-length (length u) start end) (pure-local (commentOf start (end - start)))))))))
+    let g : ℕ → ℕ → Reader Comment = λ p start. branch letters (λ _. branch (closed start) pure (illFormed p)) nothing in
+    let f : ℕ → Reader Comment = λ p. branch (byte 34) (λ _. branch here (g p) nothing) nothing in
+    here-then f f (λ p. then-local (quote-local false) (λ _. then-moved (g (length u + p)) (g p) here-local (λ start. then-local letters-local (λ _. free (or-local (closed-local start) (illFormed-local p))))))
 
 pub comment-local : {u : List ℕ} → Local Stop commentMoves u false false 1 comment comment
-comment-local {u} = by-found comment-shifted (comment-found (length u))
+comment-local {u} = by-found comment-shifted (λ s i. comment-has _ s (λ start end h _. rw (start-moves (length u) (end - start) start (omega arith))) i)
 
 pub commentApart-local : {u : List ℕ} → Local Stop commentMoves u false false 2 commentApart commentApart
 unfolding commentApart

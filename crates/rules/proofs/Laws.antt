@@ -26,8 +26,13 @@ use Rattle.rules.specs.Comments.{noComment}
 use Rattle.rules.specs.Modifiers.{tailOf}
 use Rattle.rules.specs.Rows.{isWide}
 use Rattle.rules.specs.Pieces.{plainEnd}
+use Rattle.rules.specs.Seen.{seenComment}
+use Rattle.rules.specs.declared.Comment.{Comment}
+use Rattle.rules.specs.declared.CommentRead.{CommentRead}
+use Rattle.rules.specs.declared.CommentRead.the-variants as comment
 use Rattle.rules.specs.declared.Stage.{Stage}
 use Rattle.rules.specs.declared.Stage.the-variants.{Beginning, Always, Colon, After}
+use Rattle.rules.proofs.CommentRead.{the-type as comment-type}
 use Rattle.rules.proofs.Stage.{the-type as stage-type}
 
 -- a test of two numbers, either way round
@@ -50,7 +55,7 @@ data Skipped (p : ℕ → Bool) (s : List ℕ) (i j : ℕ) : Type 0 where
   stood : one p s i ≡ none → j ≡ i → Skipped p s i j
   went : one p s i ≡ got (getD s i 0) (i + 1) → skip p s (i + 1) ≡ got tt j → i < j → Skipped p s i j
 
-same-place : {i j : ℕ} → got (tt {0}) i ≡ got tt j → j ≡ i
+pub same-place : {i j : ℕ} → got (tt {0}) i ≡ got tt j → j ≡ i
 same-place e = cc
 
 module _ (p : ℕ → Bool) (s : List ℕ) (i j : ℕ) (e : skip p s i ≡ got tt j) where
@@ -111,7 +116,17 @@ module _ (x : ℕ) (s : List ℕ) (i : ℕ) where
       go none = refl
       go (refused k p) = refl
 
--- ---- stages and kinds by their numbers
+-- ---- answers, stages and kinds by their numbers
+
+-- all that reading a comment finds but none
+abbrev decided : List ℕ
+decided = 0 ∷ 2 ∷ []
+
+-- no other is tried
+pub comment-stays : (r : CommentRead) → OneOf decided (tagOf comment-type r) → (s : List ℕ) (i : ℕ) (n : Reader Comment) → follow s i (seenComment r) pure n ≡ seenComment r
+comment-stays (comment.Got x c) k s i n = refl
+comment-stays comment.Missing k s i n = absurd (miss decided 1 tt k)
+comment-stays (comment.Refused e p) k s i n = refl
 
 -- the stages but the first
 abbrev begun : List ℕ

@@ -4,3 +4,4 @@ pub mod Apart
 pub mod Chained
 pub mod Turns
 pub mod Small
+pub mod Judged

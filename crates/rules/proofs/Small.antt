@@ -1,5 +1,5 @@
 -- A comment that is read stands in its text: its start and its length are at most the text's length.
-use Prim.Native.Nat.{ℕ, _-_, _≤_}
+use Prim.Native.Nat.{ℕ, _≤_}
 use mathlib.Core.Bool.{Bool, true, false}
 use mathlib.Core.List.{List}
 use mathlib.Core.Path.{_≡_, subst}
@@ -7,17 +7,14 @@ use native.Mathlib.Omega.{arith}
 use lib.Dec.{eqb}
 use lib.ListN.{length}
 use Rattle.names.specs.Tests.{if_then_else_}
-use Rattle.names.specs.Read.{Read, got, none, refused, Reader, follow, branch, nothing, pure, refuse, map, one, _>>_, _or_}
-use Rattle.names.specs.Chain.{skip}
+use Rattle.names.specs.Read.{Read, got, follow, branch, nothing, pure, refuse, map, _>>_, _or_}
 use Rattle.names.specs.Texts.{byte, bytes, blank, blanks, allOf}
 use Rattle.names.specs.Names.{name}
 use Rattle.names.specs.Names as names
-use Rattle.names.proofs.Local.{past, past-one}
-use Rattle.names.proofs.Ended.{one-ended}
 use Rattle.items.specs.Musts.{missing}
 use Rattle.items.specs.Kinds.{apart}
 use Rattle.rules.specs.Separators.{ruleEnd}
-use Rattle.rules.specs.Comments.{noComment, isInner, comment, commentApart}
+use Rattle.rules.specs.Comments.{noComment, comment, commentApart}
 use Rattle.rules.specs.Modifiers.{tailOf, withComment, modifier}
 use Rattle.rules.specs.Pieces.{empty, plainEnd, end}
 use Rattle.rules.specs.Rules.{openingOf, always, wideComment, opening, wins}
@@ -26,8 +23,7 @@ use Rattle.rules.specs.declared.Opening.{Opening}
 use Rattle.rules.specs.declared.Stage.{Stage}
 use Rattle.rules.specs.declared.Stage.the-variants.{Beginning, Always, Colon, After}
 use Rattle.rules.specs.declared.Tail.{Tail}
-use Rattle.rules.proofs.Laws.{skip-ended}
-use Rattle.rules.proofs.Cut.{Found, found-then}
+use Rattle.rules.proofs.Cut.{Found, found-then, found-or, comment-has}
 
 -- a comment's start and its length are at most n
 abbrev pub Small : ℕ → Comment → Type 0
@@ -44,12 +40,6 @@ SmallOpening n o = Small n (o .comment)
 no-small : (n : ℕ) → Small n noComment
 no-small n = (omega arith, omega arith)
 
--- one reader or another, where the values of both are so
-found-or : {A : Type 0} (P : A → Type 0) (s : List ℕ) (i : ℕ) (r : Read A) (n : Reader A) → Found P r → Found P (n s i) → Found P (follow s i r pure n)
-found-or P s i (got a j) n h k = h
-found-or P s i none n h k = k
-found-or P s i (refused e p) n h k = tt
-
 -- a value that was found is so
 found-is : {A : Type 0} (P : A → Type 0) (r : Read A) → Found P r → {a : A} {j : ℕ} → r ≡ got a j → P a
 found-is P r h e = subst (Found P) e h
@@ -57,15 +47,7 @@ found-is P r h e = subst (Found P) e h
 module _ (s : List ℕ) where
   -- what is read
   comment-small : (i : ℕ) → Found (Small (length s)) (comment s i)
-  unfolding comment
-  comment-small i =
-      found-then _ s i _ (byte 34 s i) (λ _ j _.
-      found-then _ s j _ (one isInner s j) (λ _ k e.
-      found-then _ s k _ (skip isInner s k) (λ _ l f.
-      found-then _ s l _ (byte 34 s l) (λ _ _ _.
-      let p = past-one (one-ended {a = true} {c = true} isInner) e in
-      let q = past (skip-ended {a = true} isInner) f in
-      (omega (arith, p), omega (arith, p, q))))))
+  comment-small i = comment-has (Small (length s)) s (λ start end h k. (omega arith, omega arith)) i
 
   apart-small : (i : ℕ) → Found (Small (length s)) (commentApart s i)
   unfolding commentApart

@@ -1,5 +1,6 @@
 pub mod Separators
 pub mod Comments
+pub mod Judged
 pub mod Modifiers
 pub mod Rows
 pub mod Pieces

@@ -13,7 +13,8 @@ use Rattle.rules.specs.Pieces.{more, end}
 use Rattle.rules.specs.declared.Comment.{Comment}
 use Rattle.names.specs.declared.Cursor.{Cursor}
 use Rattle.rules.specs.declared.Opening.{Opening}
-use Rattle.rules.specs.declared.OpeningThen.{OpeningThen}
+use Rattle.rules.specs.declared.OpeningRead.{OpeningRead}
+use Rattle.rules.specs.declared.OpeningRead.the-variants.{Got}
 use Rattle.rules.specs.declared.Stage.{Stage}
 use Rattle.rules.specs.declared.Stage.the-variants.{Beginning, Always, Colon}
 use Rattle.rules.specs.declared.Tail.{Tail}
@@ -41,8 +42,8 @@ unfoldable pub opening : Reader Opening
 opening = always or wideComment or pure (openingOf Beginning noComment)
 
 -- an opening without a comment, as the code answers it
-abbrev pub plainAt : Stage → Cursor → OpeningThen
-plainAt stage c = record { opening = openingOf stage noComment; next = c }
+abbrev pub plainAt : Stage → Cursor → OpeningRead
+plainAt stage c = Got (openingOf stage noComment) c
 
 -- the modifier's comment wins over the wide part's
 unfoldable pub wins : Comment → Comment → Comment

@@ -23,7 +23,8 @@ use Rattle.rules.specs.declared.Turn.the-variants as turn
 use Rattle.rules.specs.declared.Stage.{Stage}
 use Rattle.rules.specs.declared.Stage.the-variants.{After}
 use Rattle.rules.specs.declared.Opening.{Opening}
-use Rattle.rules.specs.declared.OpeningThen.{OpeningThen}
+use Rattle.rules.specs.declared.OpeningRead.{OpeningRead}
+use Rattle.rules.specs.declared.OpeningRead.the-variants as opening
 use Rattle.rules.specs.declared.Head.{Head}
 use Rattle.rules.specs.declared.RuleRead.{RuleRead}
 use Rattle.rules.specs.declared.RuleRead.the-variants as rule
@@ -34,6 +35,7 @@ use Rattle.rules.specs.declared.NextRead.the-variants as next
 abbrev pub seenComment : CommentRead → Read Comment
 seenComment (comment.Got x c) = got x (c .at)
 seenComment comment.Missing = none
+seenComment (comment.Refused k p) = refused k p
 
 -- a piece: an item and the stage after it, or the rule's end
 abbrev pub seenPiece : Piece → Read ((Item × Stage) ⊎ Tail)
@@ -59,9 +61,10 @@ ColonTurns s c r = (x : Stage) (i : ℕ) → map inl afterColon s c ≡ turned s
 abbrev pub BlankTurns : List Kind → List ℕ → ℕ → Turn → Type 0
 BlankTurns ks s c r = (x : Stage) → branch (apart (itemFrom ks)) (λ a. pure (inl a)) (branch (apart modifier) (λ t. pure (inr t)) (map inr (plainEnd x))) s c ≡ turned s x c r
 
--- what is always there, if only as nothing
-abbrev pub thenOpening : OpeningThen → Read Opening
-thenOpening r = got r.opening (r.next .at)
+-- what is always there, if only as nothing, or refused
+abbrev pub seenOpening : OpeningRead → Read Opening
+seenOpening (opening.Got x c) = got x (c .at)
+seenOpening (opening.Refused k p) = refused k p
 
 abbrev pub seenNext : NextRead → Read Next
 seenNext (next.Got x c) = got x (c .at)

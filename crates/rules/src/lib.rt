@@ -46,10 +46,11 @@ pub struct Spot {
     pub stage: Stage,
 }
 
-// What reading a comment finds.
+// What reading a comment finds: it and the place after it, none, or a refusal with its number and place.
 pub enum CommentRead {
     Got(Comment, Cursor),
     Missing,
+    Refused(u8, usize),
 }
 
 // A piece of a rule: an item, its kind and the place after it; the rule's end and the place after it; or a refusal with its number and place.
@@ -65,10 +66,10 @@ enum Turn {
     Over,
 }
 
-// How a rule begins, and the place after it.
-pub struct OpeningThen {
-    pub opening: Opening,
-    pub next: Cursor,
+// How a rule begins, and the place after it; or a refusal with its number and place.
+pub enum OpeningRead {
+    Got(Opening, Cursor),
+    Refused(u8, usize),
 }
 
 // A rule's head: its separator, its state, its comment, and how many items it has.

@@ -45,5 +45,6 @@ pub fn with_comment(s: &[u8], c: Cursor, state: u8) -> Piece
                 c,
             )
         }
+        CommentRead::Refused(k, p) => Piece::Refused(k, p),
     }
 }

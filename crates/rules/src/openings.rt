@@ -3,11 +3,11 @@ ghost use mathlib.Core.Path.{_≡_};
 ghost use Rattle.names.specs.Seen.{seenStep};
 ghost use Rattle.names.specs.Texts.{bytes, allOf};
 ghost use Rattle.rules.specs.Rules as rules;
-ghost use Rattle.rules.specs.Seen.{thenOpening};
+ghost use Rattle.rules.specs.Seen.{seenOpening};
 use crate::Comment;
 use crate::CommentRead;
 use crate::Opening;
-use crate::OpeningThen;
+use crate::OpeningRead;
 use crate::Stage;
 use crate::comments::comment;
 use names::Cursor;
@@ -33,42 +33,45 @@ fn always(s: &[u8], c: Cursor) -> Step
 }
 
 // An opening without a comment.
-fn plain(stage: Stage, c: Cursor) -> OpeningThen
+fn plain(stage: Stage, c: Cursor) -> OpeningRead
     ensures { λ r. ⌜ r ≡ rules.plainAt stage c ⌝ }
 {
-    OpeningThen {
-        opening: Opening {
+    OpeningRead::Got(
+        Opening {
             stage,
             comment: Comment {
                 start: 0,
                 length: 0,
             },
         },
-        next: c,
-    }
+        c,
+    )
 }
 
 // How a rule begins.
-pub fn begin(s: &[u8], c: Cursor) -> OpeningThen
-    ensures { λ r. ⌜ rules.opening (now (s .entry)) (c .at) ≡ thenOpening r ⌝ }
+pub fn begin(s: &[u8], c: Cursor) -> OpeningRead
+    ensures { λ r. ⌜ rules.opening (now (s .entry)) (c .at) ≡ seenOpening r ⌝ }
 {
     let whole = always(s, c);
     if let Step::Got(d) = whole {
         return plain(Stage::Always, d);
     }
     let wide = comment(s, c);
-    let CommentRead::Got(some, e) = wide else {
-        return plain(Stage::Beginning, c);
-    };
-    let colon = e.sign(s, b':');
-    match colon {
-        Step::Got(f) => OpeningThen {
-            opening: Opening {
-                stage: Stage::Colon,
-                comment: some,
-            },
-            next: f,
-        },
-        Step::Missing => plain(Stage::Beginning, c),
+    match wide {
+        CommentRead::Got(some, e) => {
+            let colon = e.sign(s, b':');
+            match colon {
+                Step::Got(f) => OpeningRead::Got(
+                    Opening {
+                        stage: Stage::Colon,
+                        comment: some,
+                    },
+                    f,
+                ),
+                Step::Missing => plain(Stage::Beginning, c),
+            }
+        }
+        CommentRead::Missing => plain(Stage::Beginning, c),
+        CommentRead::Refused(k, p) => OpeningRead::Refused(k, p),
     }
 }

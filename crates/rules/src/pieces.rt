@@ -152,6 +152,7 @@ impl Spot {
                 d,
             ),
             CommentRead::Missing => self.ended(s),
+            CommentRead::Refused(k, p) => Piece::Refused(k, p),
         }
     }
 

@@ -38,6 +38,11 @@ pub head-sixteen : (h : Head) → length (headWords h) ≡ 16
 unfolding headWords
 head-sixteen h = refl
 
+-- a rule whose opening is refused
+pub opening-refused : (separator slot : ℕ) (s : List ℕ) (t : Tables) (i : ℕ) {k p : ℕ} → opening s i ≡ refused k p → ruleInto t slot separator s i ≡ refused k p
+unfolding rule
+opening-refused separator slot s t i e = rw e
+
 module _ (separator : ℕ) (wide : Comment) (slot : ℕ) where
   -- of pieces behind n items: the rule's head, and tables with these items behind those
   abbrev filled : Tables → ℕ → List Item × Tail → Head × Tables

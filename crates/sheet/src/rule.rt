@@ -8,6 +8,7 @@ use crate::heads::head_words;
 use names::Cursor;
 use records::keep;
 use records::words_of;
+use rules::OpeningRead;
 use rules::Piece;
 use rules::RuleRead;
 use rules::Spot;
@@ -29,34 +30,37 @@ pub fn fill_rule(
     ensures { λ r. ⌜ ruleInto (now (words .entry), now (bytes .entry)) slot separator (now (s .entry)) (c .at) ≡ seenRuleInto r (now (words .exit), now (bytes .exit)) ⌝ }
 {
     let o = begin(s, c);
-    let start = o.opening;
-    let wide = start.comment;
-    let stage = start.stage;
-    let behind = o.next;
-    let mut n: usize = 0;
-    let mut spot = Spot {
-        at: behind.at,
-        stage,
-    };
-    loop {
-        let piece = spot.piece(s);
-        match piece {
-            Piece::Item(a, kind, d) => {
-                n += 1;
-                spot = Spot {
-                    at: d.at,
-                    stage: Stage::After(kind),
-                };
-                keep(words, bytes, slot + n, words_of(a));
-            }
-            Piece::End(t, d) => {
-                let h = head_of(separator, t, wide, n);
-                keep(words, bytes, slot, head_words(h));
-                return RuleRead::Got(h, d);
-            }
-            Piece::Refused(k, p) => {
-                return RuleRead::Refused(k, p);
+    match o {
+        OpeningRead::Got(start, behind) => {
+            let wide = start.comment;
+            let stage = start.stage;
+            let mut n: usize = 0;
+            let mut spot = Spot {
+                at: behind.at,
+                stage,
+            };
+            loop {
+                let piece = spot.piece(s);
+                match piece {
+                    Piece::Item(a, kind, d) => {
+                        n += 1;
+                        spot = Spot {
+                            at: d.at,
+                            stage: Stage::After(kind),
+                        };
+                        keep(words, bytes, slot + n, words_of(a));
+                    }
+                    Piece::End(t, d) => {
+                        let h = head_of(separator, t, wide, n);
+                        keep(words, bytes, slot, head_words(h));
+                        return RuleRead::Got(h, d);
+                    }
+                    Piece::Refused(k, p) => {
+                        return RuleRead::Refused(k, p);
+                    }
+                }
             }
         }
+        OpeningRead::Refused(k, p) => RuleRead::Refused(k, p),
     }
 }

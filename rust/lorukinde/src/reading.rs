@@ -54,7 +54,7 @@ impl<'a> Rule<'a> {
         self.items
     }
 
-    /// The comment out of the sheet, without its quotes. Its bytes need not be UTF-8.
+    /// The comment out of the sheet, without its quotes. It is well-formed UTF-8: a reading refuses others.
     pub fn comment(&self) -> Option<&'a [u8]> {
         (self.head.comment_length != 0).then(|| note(self.sheet, b"", &self.head))
     }

@@ -163,7 +163,7 @@ fn rules_and_items() {
 
 #[test]
 fn refusals_in_plain_words() {
-    let said: Vec<String> = (1..=12).map(|number| refusal(number, 12).to_string()).collect();
+    let said: Vec<String> = (1..=13).map(|number| refusal(number, 12).to_string()).collect();
     for (i, text) in said.iter().enumerate() {
         let has_no_place = [Refusal::TOO_LONG, Refusal::NO_PART, Refusal::NO_ROOM].contains(&(i as u32 + 1));
         assert_eq!(text.contains("12 bytes into the sheet"), !has_no_place, "{text}");
@@ -175,6 +175,7 @@ fn refusals_in_plain_words() {
     assert!(refusal(Refusal::POINT_IN_TIME, 1).to_string().contains("the item 1 byte into"));
     assert_eq!(refusal(Refusal::EMPTY_RULE, 3).to_string(), "the rule 3 bytes into the sheet is empty");
     assert!(refusal(Refusal::BROKEN_QUOTE, 5).to_string().contains("the quote 5 bytes into the sheet opens no comment"));
+    assert!(refusal(Refusal::ILL_FORMED_COMMENT, 3).to_string().starts_with("the comment 3 bytes into the sheet"));
     assert!(refusal(99, 1).to_string().contains("the number 99"));
     let error: Box<dyn std::error::Error + Send + Sync> = Box::new(refusal(6, 0));
     assert!(error.to_string().contains("run backwards"));

@@ -1,5 +1,5 @@
 //! What is said in plain words.
-use lorukinde::parts;
+use lorukinde::{parts, Refusal};
 
 fn said(sheet: &str) -> Vec<String> {
     parts(sheet.as_bytes())
@@ -65,7 +65,9 @@ fn a_slip_loses_its_part_alone() {
 }
 
 #[test]
-fn comments_of_any_bytes_are_shown() {
-    let all: Vec<_> = parts(b"\"\xff\"").map(|part| part.reading.unwrap().rules().next().unwrap().to_string()).collect();
-    assert_eq!(all, ["open: always, note \"\u{fffd}\""]);
+fn comments_can_be_shown() {
+    let comment = "\u{e9}\u{20ac}\u{1d11e}";
+    assert_eq!(said(&format!("off \"{comment}\"")), [format!("closed: always, note \"{comment}\"")]);
+    let refused: Vec<_> = parts(b"Mo;Tu \"\xff\"").map(|part| part.reading.err()).collect();
+    assert_eq!(refused, [None, Some(Refusal { number: Refusal::ILL_FORMED_COMMENT, place: 6 })]);
 }

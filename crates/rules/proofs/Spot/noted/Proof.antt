@@ -14,5 +14,7 @@ noted-spec =
     (λ c. search needs)  -- enum-known-alone
     (λ c. search needs)  -- enum-told
     (λ c κs. search needs)  -- ended-requires
+    (λ c. search needs)  -- enum-known-alone-2
     (λ c. rw (said (c .before .before .before .comment .ensures) (ap seenComment (c .before .alone .given .1)) .is))  -- returns
-    (λ c. rw (said (c .before .before .before .comment .ensures) (ap seenComment (c .before .enum-told .given .1)) .is) (c .ended .ensures)))  -- returns-2
+    (λ c. rw (said (c .before .before .before .comment .ensures) (ap seenComment (c .before .enum-told .given .1)) .is) (c .ended .ensures))  -- returns-2
+    (λ c. rw (said (c .before .before .before .comment .ensures) (ap seenComment (c .before .alone2 .given .1)) .is)))  -- returns-3

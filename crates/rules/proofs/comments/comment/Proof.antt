@@ -1,9 +1,11 @@
 -- `rules::comments::comment` meets its contract.
 use borrow.Author.Needs.{needs}
-use native.Mathlib.Omega.{arith}
-use Rattle.names.proofs.Facts.{Went, went}
-use Rattle.rules.specs.Comments.{comment}
-use Rattle.rules.proofs.Laws.{skip-first, skip-others, skip-none}
+use mathlib.Core.Path.{ap}
+use denote.Ref.{now}
+use Rattle.names.proofs.Facts.{Went, went, said}
+use Rattle.rules.specs.Comments.{illFormed, comment}
+use Rattle.rules.specs.Seen.{seenComment}
+use Rattle.rules.proofs.Laws.{comment-stays}
 use Rattle.rules.proofs.comments.comment.Statement.{statement}
 use Rattle.rules.proofs.comments.comment.Tie as tie
 
@@ -19,13 +21,11 @@ comment-spec =
     (λ c. search needs)  -- enum-known-left
     (λ c. search needs)  -- enum-told
     (λ c. rw (went (c .before .before .sign .ensures) (c .enum-told .given .1) .is))  -- returns
-    (λ c κs. search needs)  -- inner-requires
-    (λ c. let w = left (c .before .before .before) in rw (w .is, skip-none _ _ _ _ (c .before .inner .ensures) (omega arith)))  -- returns-2
-    (λ c κs. search needs)  -- sign-requires-2
-    (λ c. search needs)  -- enum-known-right
+    (λ c κs. search needs)  -- letters-requires
+    (λ c κs. search needs)  -- closed-requires
     (λ c. search needs)  -- enum-told-2
-    (λ c. let d = c .before .before .before in let w = left (d .before .before .before) in let e = d .before .inner .ensures in
-    rw (w .is, skip-first _ _ _ _ e (d .if1 .left), skip-others _ _ _ _ e (d .if1 .left), went (c .before .before .sign2 .ensures) (c .enum-told2 .given .1) .is))  -- returns-3
-    (λ c. search needs)  -- sub-t11
-    (λ c. let d = c .before .before .before .before in let w = left (d .before .before .before) in let e = d .before .inner .ensures in
-    rw (w .is, skip-first _ _ _ _ e (d .if1 .left), skip-others _ _ _ _ e (d .if1 .left), went (c .before .before .before .sign2 .ensures) (c .before .right .given .1) .is)))  -- returns-4
+    (λ c κs. search needs)  -- ill-formed-requires
+    (λ c. let k = c .before .before .before in let e = k .before in
+    rw (left (e .before .before) .is, e .letters .ensures, said (k .closed .ensures) (ap seenComment (c .before .enum-told2 .given .1)) .is) (c .ill-formed .ensures))  -- returns-2
+    (λ c. let k = c .before in let e = k .before in let a = e .before .before .before .before .before .before .args in
+    rw (left (e .before .before) .is, e .letters .ensures, k .closed .ensures) (comment-stays (k .closed .result) (c .match2 .keys2) (now (a .s)) (e .letters .result .at) (illFormed (a .c .at)))))  -- returns-3

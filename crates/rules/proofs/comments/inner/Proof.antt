@@ -8,7 +8,7 @@ use denote.Ref.{now}
 use lib.ListN.{length}
 use Rattle.names.specs.Chain.{skip}
 use Rattle.names.proofs.Skips.{skip-more, skip-stop, skip-end}
-use Rattle.rules.specs.Comments.{isInner}
+use Rattle.utf8.specs.Letters.{isInner}
 use Rattle.rules.proofs.comments.inner.Statement.{statement}
 use Rattle.rules.proofs.comments.inner.Tie as tie
 

@@ -2,7 +2,7 @@
 use borrow.Author.Tests.{le-leb, lt-leb}
 use mathlib.Core.Bool.{not}
 use mathlib.Core.Path.{ap}
-use Rattle.rules.specs.Comments.{isInner}
+use Rattle.utf8.specs.Letters.{isInner}
 use Rattle.rules.proofs.Laws.{eqb-swap}
 use Rattle.rules.proofs.comments.is_inner.Statement.{statement}
 use Rattle.rules.proofs.comments.is_inner.Tie as tie

@@ -16,5 +16,7 @@ with-comment-spec =
     (λ c. search needs)  -- enum-known-apart
     (λ c. search needs)  -- enum-told
     (λ c κs. search needs)  -- no-comment-requires
+    (λ c. search needs)  -- enum-known-apart-2
     (λ c. rw (said (c .before .before .before .comment-apart .ensures) (ap seenComment (c .before .apart .given .1)) .is))  -- returns
-    (λ c. rw (said (c .before .before .before .comment-apart .ensures) (ap seenComment (c .before .enum-told .given .1)) .is, c .no-comment .ensures)))  -- returns-2
+    (λ c. rw (said (c .before .before .before .comment-apart .ensures) (ap seenComment (c .before .enum-told .given .1)) .is, c .no-comment .ensures))  -- returns-2
+    (λ c. rw (said (c .before .before .before .comment-apart .ensures) (ap seenComment (c .before .apart2 .given .1)) .is)))  -- returns-3

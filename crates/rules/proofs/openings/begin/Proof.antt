@@ -26,12 +26,14 @@ begin-spec =
     (λ c. search needs)  -- enum-told
     (λ c κs. search needs)  -- comment-requires
     (λ c. search needs)  -- enum-known-wide
-    (λ c. search needs)  -- enum-told-2
-    (λ c κs. search needs)  -- plain-requires-2
-    (λ c. rw (not-always (c .before .before .before .before) .is, said (c .before .before .before .comment .ensures) (ap seenComment (c .before .enum-told2 .given .1)) .is, c .plain2 .ensures))  -- returns-2
     (λ c κs. search needs)  -- sign-requires
     (λ c. search needs)  -- enum-known-colon
+    (λ c. search needs)  -- enum-told-2
+    (λ c κs. search needs)  -- plain-requires-2
     (λ c. search needs)  -- enum-told-3
     (λ c κs. search needs)  -- plain-requires-3
-    (λ c. let w = wide (c .before .before .before .before .before) in rw (w .0 .is, w .1 .is, went (c .before .before .before .sign .ensures) (c .before .colon .given .1) .is))  -- returns-3
-    (λ c. let w = wide (c .before .before .before .before .before) in rw (w .0 .is, w .1 .is, went (c .before .before .before .sign .ensures) (c .before .enum-told3 .given .1) .is, c .plain3 .ensures)))  -- returns-4
+    (λ c. search needs)  -- enum-known-wide-2
+    (λ c. let w = wide (c .before .before .before .before .before) in rw (w .0 .is, w .1 .is, went (c .before .before .before .sign .ensures) (c .before .colon .given .1) .is))  -- returns-2
+    (λ c. let w = wide (c .before .before .before .before .before) in rw (w .0 .is, w .1 .is, went (c .before .before .before .sign .ensures) (c .before .enum-told2 .given .1) .is, c .plain2 .ensures))  -- returns-3
+    (λ c. let k = c .before .before .before in rw (not-always (k .before) .is, said (k .comment .ensures) (ap seenComment (c .before .enum-told3 .given .1)) .is, c .plain3 .ensures))  -- returns-4
+    (λ c. let k = c .before .before .before in rw (not-always (k .before) .is, said (k .comment .ensures) (ap seenComment (c .before .wide2 .given .1)) .is)))  -- returns-5

@@ -12,8 +12,9 @@ use Rattle.names.proofs.Local.{past-one}
 use Rattle.records.specs.Tables.{Tables}
 use Rattle.records.specs.declared.Item.{Item}
 use Rattle.rules.specs.Pieces.{more}
-use Rattle.rules.specs.Seen.{seenPiece}
+use Rattle.rules.specs.Seen.{seenOpening, seenPiece}
 use Rattle.rules.specs.declared.Head.{Head}
+use Rattle.rules.specs.declared.Opening.{Opening}
 use Rattle.rules.specs.declared.Stage.{Stage}
 use Rattle.rules.specs.declared.Stage.the-variants.{After}
 use Rattle.rules.specs.declared.Tail.{Tail}
@@ -21,7 +22,7 @@ use Rattle.rules.proofs.Cut.{more-local}
 use Rattle.rules.proofs.Chained.{piece-item}
 use Rattle.rules.proofs.Small.{opening-small}
 use Rattle.sheet.specs.Into.{ruleInto}
-use Rattle.sheet.proofs.Fills.{left, headed, left-refused, left-end, Turn, turn-begin, turn-more, turn-whole, head-small}
+use Rattle.sheet.proofs.Fills.{left, headed, opening-refused, left-refused, left-end, Turn, turn-begin, turn-more, turn-whole, head-small}
 use Rattle.sheet.proofs.rule.fill_rule.Statement.{statement}
 use Rattle.sheet.proofs.rule.fill_rule.Tie as tie
 
@@ -41,15 +42,22 @@ end c = said (c .before .before .piece .ensures) (ap seenPiece (c .piece3 .given
 abbrev refusal : tie.After-piece4 Inv-loop μ-loop → Said ((Item × Stage) ⊎ Tail)
 refusal c = said (c .before .before .piece .ensures) (ap seenPiece (c .piece4 .given .1))
 
+-- the opening: what was read, or a refusal
+abbrev opened : tie.After-o Inv-loop μ-loop → Said Opening
+opened c = said (c .before .before .begin .ensures) (ap seenOpening (c .o .given .1))
+
+abbrev refused-opening : tie.After-o2 Inv-loop μ-loop → Said Opening
+refused-opening c = said (c .before .before .begin .ensures) (ap seenOpening (c .o2 .given .1))
+
 -- the item is what may stand there
-abbrev more-is : (c : tie.After-piece2 Inv-loop μ-loop) → let l = c .before .before .before in let g = c .piece2 .given .0 in more (l .loop .spot .stage) (now (l .before .before .before .before .before .before .before .args .s)) (l .loop .spot .at) ≡ got (g .0, After (g .1 .0)) (g .1 .1 .0 .at)
+abbrev more-is : (c : tie.After-piece2 Inv-loop μ-loop) → let l = c .before .before .before in let g = c .piece2 .given .0 in more (l .loop .spot .stage) (now (l .before .before .before .before .before .before .before .before .args .s)) (l .loop .spot .at) ≡ got (g .0, After (g .1 .0)) (g .1 .1 .0 .at)
 more-is c = piece-item _ _ _ (item c .is)
 
 -- the whole rule, from what is left at a turn
-whole : (c : tie.At-loop Inv-loop μ-loop) {r : Read (Head × Tables)} → let b = c .before .before .before .before in let a = b .before .before .before .args in let o = b .begin .result in
-    left (a .separator) (o .opening .comment) (a .slot) (c .loop .words, c .loop .bytes) (c .loop .n) (c .loop .spot .stage) (now (a .s)) (c .loop .spot .at) ≡ r →
-    ruleInto (now (a .words), now (a .bytes)) (a .slot) (a .separator) (now (a .s)) (a .c .at) ≡ follow (now (a .s)) (o .next .at) r (λ h. pure (headed (a .separator) (o .opening .comment) (a .slot) h)) nothing
-whole c e = let b = c .before .before .before .before in turn-whole _ _ _ _ _ _ _ _ _ (c .loop .n) (c .loop .spot .stage) (c .loop .spot .at) (b .begin .ensures) refl refl (c .loop .inv) e
+whole : (c : tie.At-loop Inv-loop μ-loop) {r : Read (Head × Tables)} → let o = c .before .before .before in let a = o .before .before .before .before .before .args in let g = o .o .given .0 in
+    left (a .separator) (g .0 .comment) (a .slot) (c .loop .words, c .loop .bytes) (c .loop .n) (c .loop .spot .stage) (now (a .s)) (c .loop .spot .at) ≡ r →
+    ruleInto (now (a .words), now (a .bytes)) (a .slot) (a .separator) (now (a .s)) (a .c .at) ≡ follow (now (a .s)) (g .1 .0 .at) r (λ h. pure (headed (a .separator) (g .0 .comment) (a .slot) h)) nothing
+whole c e = turn-whole _ _ _ _ _ _ _ _ _ (c .loop .n) (c .loop .spot .stage) (c .loop .spot .at) (opened (c .before .before .before) .is) refl refl (c .loop .inv) e
 
 pub fill-rule-spec : {M : Type 1} → statement M
 fill-rule-spec =
@@ -58,11 +66,12 @@ fill-rule-spec =
     Inv-loop
     μ-loop
     (λ c κs. search needs)  -- begin-requires
+    (λ c. search needs)  -- enum-known-o
     (λ c. turn-begin _ _ _ _ _ _ _)  -- loop-holds
     (λ c κs. search needs)  -- piece-requires
     (λ c. search needs)  -- enum-known-piece
     (λ c. omega (arith, past-one (more-local _) (more-is (c .before)), c .before .before .before .before .loop .inv .low))  -- add-n
-    (λ c. let m = c .before .before .before in let l = m .before .before .before in let z = l .before .before .before .before .before .before .before in
+    (λ c. let m = c .before .before .before in let l = m .before .before .before in let z = l .before .before .before .before .before .before .before .before in
     omega (arith, past-one (more-local _) (more-is m), l .loop .inv .few, z .pre .0, z .pre .1))  -- add-keep
     (λ c κs. search needs)  -- words-of-requires
     (λ c κs. search needs)  -- keep-requires
@@ -72,8 +81,8 @@ fill-rule-spec =
     (turn-more _ _ _ _ _ _ _ (l .loop .words, l .loop .bytes) (l .loop .n) (l .loop .spot .stage) (l .loop .spot .at) (l .loop .inv) (more-is m)))  -- loop-again
     (λ c. search needs)  -- enum-known-piece-2
     (λ c κs. search needs)  -- head-of-requires
-    (λ c κs. let h = c .before .before in let p = h .before .before in let l = p .before .before .before in let b = l .before .before .before .before in let z = b .before .before .before in
-    let q = head-small (z .args .separator) (b .begin .result .opening .comment) (p .piece3 .given .0 .0) (now (z .args .s)) (l .loop .n) (l .loop .spot .at) _ (l .loop .spot .stage) (opening-small (now (z .args .s)) (z .args .c .at) (b .begin .ensures)) (end p .is) in
+    (λ c κs. let h = c .before .before in let p = h .before .before in let l = p .before .before .before in let o = l .before .before .before in let z = o .before .before .before .before .before in
+    let q = head-small (z .args .separator) (o .o .given .0 .0 .comment) (p .piece3 .given .0 .0) (now (z .args .s)) (l .loop .n) (l .loop .spot .at) _ (l .loop .spot .stage) (opening-small (now (z .args .s)) (z .args .c .at) (opened o .is)) (end p .is) in
     rw (h .head-of .ensures) (omega (arith, q .0, z .pre .0), omega (arith, q .1, z .pre .0), omega (arith, l .loop .inv .few, z .pre .0)))  -- head-words-requires
     (λ c κs. search needs)  -- keep-requires-2
     (λ c. let w = c .before .before in w .words2 .given ∙ w .before .before .before .before .before .before .before .before .before .before .loop .inv .words)  -- same-length
@@ -83,4 +92,6 @@ fill-rule-spec =
     (λ c. search needs)  -- enum-known-piece-3
     (λ c. c .before .before .before .before .loop .inv .words)  -- same-length-3
     (λ c. c .before .before .before .before .loop .inv .bytes)  -- same-length-4
-    (λ c. let l = c .before .before .before .before in whole l (left-refused _ _ _ _ _ (l .loop .n) (l .loop .spot .stage) (l .loop .spot .at) (refusal (c .before) .is))))  -- returns-2
+    (λ c. let l = c .before .before .before .before in whole l (left-refused _ _ _ _ _ (l .loop .n) (l .loop .spot .stage) (l .loop .spot .at) (refusal (c .before) .is)))  -- returns-2
+    (λ c. search needs)  -- enum-known-o-2
+    (λ c. opening-refused _ _ _ _ _ (refused-opening (c .before) .is)))  -- returns-3
