@@ -15,7 +15,8 @@ extern "C" {
  * A reading takes about 4 kilobytes of stack. */
 
 /* A record is 64 bytes of the table: 16 words of 32 bits, signed (two's complement), each little-endian. A rule's head comes
- * first, then its items in reading order. Unused words are 0.
+ * first, then its items in reading order. Unused words are 0. Word 15, the last, is the place of the item's first byte: its year's
+ * if it has one, a week's number's; for a head, where its rule begins after the blanks before it.
  *
  *   word 0      from word 1 on
  *   1 head      separator; 0 open, 1 closed, 2 unknown; comment start; its length; number of items. No comment: 0, 0
@@ -28,13 +29,14 @@ extern "C" {
  *   7 holiday   1 public, 2 school; day offset
  *   8 span      start kind, start, end kind, end, repeat in minutes or -1, open end 0/1
  *
- * Comment starts count from the sheet's first byte, inside the quote. A comment is well-formed UTF-8. */
+ * Places count from the sheet's first byte; so does a comment's start, which is inside the quote. A comment is well-formed
+ * UTF-8. */
 #define LORUKINDE_RECORD_BYTES 64
 #define LORUKINDE_SHEET_BYTES 4096
 
-/* What a reading returns, and the place that it stores. "Read so far" is the place after the item, comma, colon, `week`, `24/7`,
- * modifier word or comment of the rule that was completed last, and after its blanks; if there is none, where the rule begins.
- * A rule begins where the blanks before it end, an item with its year if it has one, a week with its number. */
+/* What a reading returns, and the place that it stores. Where a rule begins, and what an item's first byte is, is said at word 15.
+ * "Read so far" is the place after the item, comma, colon, `week`, `24/7`, modifier word or comment of the rule that was completed
+ * last, and after its blanks; if there is none, where the rule begins. */
 enum {
     LORUKINDE_ACCEPTED = 0,       /* accepted; 0 */
     LORUKINDE_TOO_LONG = 1,       /* over 4,096 bytes; 0 */

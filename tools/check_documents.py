@@ -9,9 +9,9 @@ import os
 import re
 import sys
 
-from reference import bytes_of, chain, read_part, read_sheet
+from reference import bytes_of, chain, line_of, read_part, read_sheet
 
-IN_FORCE = {1, 3, 8}
+IN_FORCE = {1, 3, 7, 8}
 CHANGES = (1, 3, 7, 8, 9, 12)  # the Asks after which a sheet or a part is read otherwise
 WORDS = 8192
 NO = [0] * 16
@@ -111,7 +111,7 @@ PARTS = {
 SHEETS = {("Mo;Tu", 32): (10, 0), ("Mo;Tu", 63): (10, 0), ("Mo;Tu", 64): (0, 0), ("Mo", 47): (0, 0), ("Mo;x", 0): (3, 3), ("Mo" + " " * 4094, 32): (0, 0)}
 
 SECTION = re.compile(r"\*\*(\d+\.\d+) ")
-CASE = re.compile(r"- \[(\d+)( part)?\] `(.*?)`(?: at (\d+))? → \*\*(.*?)\*\*")
+CASE = re.compile(r"- \[(\d+)( part| words)?\] `(.*?)`(?: at (\d+))? → \*\*(.*?)\*\*")
 
 
 def taken(path):
@@ -121,8 +121,8 @@ def taken(path):
         section = m.group(1) if (m := SECTION.match(line)) else section
         m = CASE.match(line)
         if m and {n for n in CHANGES if n <= int(m.group(1))} <= IN_FORCE:
-            ask, part, sheet, place, answer = m.groups(default="")
-            yield section, f"{ask}{part} {place}".strip(), sheet, answer.strip()
+            ask, call, sheet, place, answer = m.groups(default="")
+            yield section, f"{ask}{call} {place}".strip(), sheet, answer.strip()
 
 
 def readings_04():
@@ -136,6 +136,8 @@ def said(call, s):
         number, place, records, warned, follows, last = read_part(s, int(call.split()[-1]), WORDS)
         return f"{number} {place} {len(records)} {warned} {follows} {'last' if last else 'more'}"
     number, place, records, warned = read_sheet(s, WORDS)
+    if "words" in call:
+        return " / ".join(line_of(r) for r in records if r[0] != 1)
     return f"{number} {place} {len(records)} {warned}"
 
 
@@ -158,9 +160,9 @@ def wrong():
     for (text, words), want in SHEETS.items():
         if read_sheet(text.encode(), words)[:2] != want:
             yield text, want, read_sheet(text.encode(), words)[:2]
-    comment = chain(b'Mo; "a"', 512)[1][1][2][0]
-    if comment[3] != 5:
-        yield 'Mo; "a"', 5, comment
+    head = chain(b'Mo; "a"', 512)[1][1][2][0]
+    if (head[3], head[15]) != (5, 4):
+        yield 'Mo; "a"', "start 5, place 4 in its part", head
 
 
 def missing_01(path):

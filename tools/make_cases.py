@@ -150,6 +150,13 @@ def slips():
     return [line(s) for s in out]
 
 
+def item_places():
+    """items after blanks, in lists, with years and brackets, in every list of a rule, in later rules and parts"""
+    out = ["  2020", " 2020 Jan", "2020  2021 Jan", "2020-2021,2023+,2025  Jan,2024 Feb 3-5,easter", "week  1,2-3,53", "2020 week   7 Mo", "  Mo,Tu-We[1],PH,SH +1 day", "PH,Mo  (sunset-1:00)-26:00,dawn+,10:00-12:00", "Jan 5+Mo -1 day-7,Feb:  Mo",
+           '  "c":  Mo,PH 10:00+ off "d"', '  off', ' "e"', '  24/7  closed', 'Mo;Tu', ' Mo ;  Tu "a" ; 24/7', "Mo, Tu,We || Th  10:00+,11:00+,  off", ' 2020 Jan-Mar , week 1,3: Sa 10:00-12:00/30 "f" ;;x', "Mo ; x ;  2021-2020; 1999 Dec Mo[-1]"]
+    return [line(s, "A") for s in out]
+
+
 def tables():
     """tables of 0 words and more against sheets of 1 record and more"""
     sizes = [0, 1, 15, 16, 17, 31, 32, 33, 47, 48, 63, 64, 80, 512]
@@ -239,7 +246,7 @@ def sample():
 
 ORIGINS = {
     "documents": lambda: sheets_of("documents.txt"), "readings": readings_04, "specification": lambda: sheets_of("specification.txt"),
-    "transitions": transitions, "joints": joints, "order of pieces": triples, "ranges": ranges, "orders": orders, "bare days": bare_days, "marks": marks, "names": names, "refusals": refusals, "slips": slips,
+    "transitions": transitions, "joints": joints, "order of pieces": triples, "ranges": ranges, "orders": orders, "bare days": bare_days, "marks": marks, "names": names, "refusals": refusals, "slips": slips, "items' places": item_places,
     "tables": tables, "blanks": blanks, "odd bytes": odd_bytes, "letters": letters, "quotes": quotes, "long sheets": long_sheets, "exchanges": exchanges, "notes": notes,
     "the Rust's answers": sample,
 }

@@ -216,7 +216,7 @@ def meaning(kind, g):
 
 
 def item(kind, s, i):
-    """(words, place after) of an item of this kind at place i, or None; raises Refused with its number and i"""
+    """(words, place after) of an item of this kind at place i, or None; raises Refused with its number and i. The last word is i."""
     best = None
     for shape in SHAPES[kind]:
         m = shape.match(s, i)
@@ -228,7 +228,7 @@ def item(kind, s, i):
         words = meaning(kind, best.groupdict())
     except Refused as r:
         raise Refused(*r.args, i) from None
-    return words + [0] * (16 - len(words)), best.end()
+    return words + [0] * (15 - len(words)) + [i], best.end()
 
 
 # ---- rules
@@ -385,7 +385,7 @@ def rules_of(s):
         place = i = skip(s, i)
         try:
             state, start, length, items, i = rule(s, i)
-            records += [[1, separator, state, start, length, len(items)] + [0] * 10] + items
+            records += [[1, separator, state, start, length, len(items)] + [0] * 9 + [place]] + items
             i = skip(s, i)
             if i == len(s):
                 return records
@@ -450,8 +450,9 @@ def parts(s):
 
 
 def moved(record, d):
-    """the record of a text that stands d bytes later"""
-    return record[:3] + [record[3] + d] + record[4:] if record[0] == 1 and record[4] else record
+    """the record of a text that stands d bytes later: its item's place moves, and so does the start of a head's comment"""
+    start = [record[3] + d] if record[0] == 1 and record[4] else [record[3]]
+    return record[:3] + start + record[4:15] + [record[15] + d]
 
 
 def read_part(s, place, words):

@@ -1,4 +1,4 @@
-/* Faults planted round the entries, to show that the fuzzer finds them: FAULT=1 to 34 in the environment, 0 for none. Linked with
+/* Faults planted round the entries, to show that the fuzzer finds them: FAULT=1 to 37 in the environment, 0 for none. Linked with
  * -Wl,--wrap=lorukinde_read_sheet,--wrap=lorukinde_read_part,--wrap=lorukinde_note, so the library itself stays as it is. */
 #include <stdlib.h>
 #include <string.h>
@@ -46,6 +46,7 @@ uint32_t __wrap_lorukinde_read_sheet(const uint8_t *sheet, size_t n, uint8_t *ta
     case 32: *place -= number == LORUKINDE_WEEKS_INVERTED ? 5 : 0; break; /* the place of `week` for its number's */
     case 33: *place += number == LORUKINDE_ILL_FORMED_COMMENT; break;     /* the place inside the quotes */
     case 34: if (number == LORUKINDE_ILL_FORMED_COMMENT) number = LORUKINDE_NO_SHAPE; break;
+    case 35: if (used > 128 && table[128] != 1) memcpy(table + 188, table + 124, 4); break; /* an item has the place of the one before it */
     }
     return number;
 }
@@ -63,6 +64,8 @@ uint32_t __wrap_lorukinde_read_part(const uint8_t *sheet, size_t n, size_t begin
     case 22: if (number == 0 && used == 64 && begin) number = 3, *place = (uint32_t)begin, *records = *warnings = 0; break;
     case 23: if (used < bytes && number == 2) table[used] ^= 1; break;    /* a refused place changes the table */
     case 24: last[1] = 0; break;
+    case 36: if (used && table[60] >= begin) table[60] -= (uint8_t)begin; break; /* a head's place is the part's, not the sheet's */
+    case 37: if (used > 64 && table[124] < 255) table[124]++; break;      /* an item's place is its second byte */
     }
     return number;
 }

@@ -129,6 +129,8 @@ struct answer {
 enum { ANSWERS = LORUKINDE_ILL_FORMED_COMMENT + 1 };
 static uint64_t calls, sheet_numbers[ANSWERS], part_numbers[ANSWERS], notes[2], records_seen, warnings_seen;
 
+enum { PLACE = 15 }; /* the word of a record that says where its item begins */
+
 static int32_t word(const uint8_t *record, int i)
 {
     const uint8_t *b = record + 4 * i;
@@ -184,7 +186,7 @@ static bool moment(int32_t kind, int32_t at, int32_t most)
     return kind == 0 ? within(at, 0, most) : within(kind, 1, 4) && within(at, -1440, 1440);
 }
 
-/* an item's words lie in their ranges; those from `used` on are 0 */
+/* an item's words lie in their ranges; those from `used` on are 0, but for the last */
 static bool item(const uint8_t *r)
 {
     int32_t w[16], used = 0;
@@ -200,7 +202,7 @@ static bool item(const uint8_t *r)
     case 7: used = 3; good = within(w[1], 1, 2) && within(w[2], -32767, 32767); break;
     case 8: used = 7; good = moment(w[1], w[2], 1440) && moment(w[3], w[4], 2880) && within(w[5], -1, 1439) && within(w[6], 0, 1); break;
     }
-    for (int i = used; i < 16; i++)
+    for (int i = used; i < PLACE; i++)
         good = good && w[i] == 0;
     return good;
 }
@@ -239,7 +241,7 @@ static bool head(const uint8_t *r, bool first, const uint8_t *s, size_t begin, s
 {
     int32_t start = word(r, 3), n = word(r, 4);
     bool good = word(r, 0) == 1 && within(word(r, 1), 0, first ? 0 : 2) && within(word(r, 2), 0, 2) && word(r, 5) >= 0;
-    for (int i = 6; i < 16; i++)
+    for (int i = 6; i < PLACE; i++)
         good = good && word(r, i) == 0;
     if (n == 0)
         return good && start == 0;
@@ -323,13 +325,20 @@ static void answer_good(const struct answer *a, const uint8_t *s, size_t begin, 
     }
     need(a->place == 0 && a->records >= 1 && (size_t)a->records * 64 <= table_bytes, "an accepted text's numbers");
     need(a->warnings <= end - begin, "more warnings than bytes");
+    size_t from = begin; /* where the next item can begin */
     for (uint32_t i = 0; i < a->records;) {
         const uint8_t *r = a->table + 64 * (size_t)i;
         need(head(r, i == 0, s, begin, end), "a head's words");
+        size_t place = (size_t)(uint32_t)word(r, PLACE);
+        need(place >= from && place < end && s[place] != ' ' && rule_begins(s, begin, place), "a head's place");
+        from = place;
         uint32_t items = (uint32_t)word(r, 5);
         need(items < a->records - i, "item counts that do not add up");
-        for (uint32_t k = 1; k <= items; k++)
+        for (uint32_t k = 1; k <= items; k++, from = place + 1) {
             need(item(r + 64 * k), "an item's words");
+            place = (size_t)(uint32_t)word(r + 64 * k, PLACE);
+            need(place >= from && item_begins(s, begin, end, place), "an item's place");
+        }
         i += 1 + items;
     }
     records_seen += a->records;
@@ -754,7 +763,8 @@ static void same_alone(size_t begin, size_t end, size_t table_bytes, const struc
     for (size_t i = 0; i < a.records; i++)
         for (int k = 0; k < 16; k++) {
             const uint8_t *r = a.table + 64 * i;
-            int32_t moved = k == 3 && word(r, 0) == 1 && word(r, 4) ? (int32_t)begin : 0;
+            bool moves = k == PLACE || (k == 3 && word(r, 0) == 1 && word(r, 4));
+            int32_t moved = moves ? (int32_t)begin : 0;
             need(word(r, k) + moved == word(records + 64 * i, k), "a part alone: its records");
         }
 }

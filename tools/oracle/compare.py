@@ -107,12 +107,17 @@ by_numbers = reference()
 by_numbers.bare_end = builders.bare_end = bare_end_of_rust
 
 
+def placed(record, place):
+    """a record with this for its last word, its item's place, which the Rust has not"""
+    return record[:record.rindex(b" ") + 1] + place
+
+
 def as_rust(s, records, listed):
     """our records as the Rust has them"""
     out, i = [], 0
     while i < len(records):
         w = records[i].split()
-        items = records[i + 1:i + 1 + int(w[5])]
+        items = [placed(r, b"0") for r in records[i + 1:i + 1 + int(w[5])]]
         i += 1 + len(items)
         start, length = int(w[3]), int(w[4])
         if not any(r.startswith(b"8 ") for r in items):  # the Rust has a span of the whole day for a rule without times

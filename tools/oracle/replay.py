@@ -1,6 +1,7 @@
 #!/usr/bin/env python3
 """Writes what crates/cases is to write: for the sheets of sample.txt the Rust's answers of sample.out, for every other case that of tools/reference.py.
-A bare end day that the Rust puts into a month that lacks it is put where it is here (docs/DIFFERENCES.md, 6).
+A bare end day that the Rust puts into a month that lacks it is put where it is here (docs/DIFFERENCES.md, 6), and an item's place, which the Rust
+does not say, is that of tools/reference.py.
 
     python3 tools/oracle/replay.py crates/cases/stdin > crates/cases/stdout
 
@@ -17,6 +18,12 @@ import make_cases
 import reference
 
 
+def with_places(s, records):
+    """the Rust's records, with the last words of tools/reference.py"""
+    ours = compare.more_room(compare.plain, s)[1]
+    return [compare.placed(r, o.split()[15]) for r, o in zip(records, ours)] if len(ours) == len(records) else records
+
+
 def sample():
     """each case of the sample, and the lines of its answer; how many of them have an end moved"""
     lines = iter(open(os.path.join(HERE, "sample.out"), "rb").read().split(b"\n")[1:-1])
@@ -26,7 +33,7 @@ def sample():
         records = list(itertools.islice(lines, int(head.split()[2])))
         ours = compare.with_ends(raw[6:], records, compare.by_numbers, compare.plain)
         moved += ours != records
-        answers[raw] = [head, *ours]
+        answers[raw] = [head, *with_places(raw[6:], ours)]
     assert next(lines, None) is None, "more answers than sheets"
     return answers, moved
 

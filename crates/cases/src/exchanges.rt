@@ -97,25 +97,52 @@ fn is_same_comment(
     )
 }
 
-// Whether the record from a place on is the same in both tables, a comment by its bytes and not by its place.
-fn is_same_record(one: &[u8], t: &[i32], other: &[u8], u: &[i32], at: usize) -> bool
+// A record's place counted from a part's beginning.
+fn place_from(place: i32, beginning: usize) -> usize {
+    if place < 0 {
+        return 0;
+    }
+    from(place as usize, beginning, false)
+}
+
+// Whether the record from a place on, of the part at p and of that at q, is the same in both tables, places moved; a comment by its bytes and not by its place.
+fn is_same_record(
+    one: &[u8],
+    p: usize,
+    t: &[i32],
+    other: &[u8],
+    q: usize,
+    u: &[i32],
+    at: usize,
+) -> bool
     requires { ⌜ at + 16 ≤ length (now t) ⌝ }
     requires { ⌜ at + 16 ≤ length (now u) ⌝ }
 {
+    if place_from(t[at + 15], p) != place_from(u[at + 15], q) {
+        return false;
+    }
     if t[at] != 1 {
-        return is_same_words(t, u, at, 16);
+        return is_same_words(t, u, at, 15);
     }
     if !is_same_words(t, u, at, 3) {
         return false;
     }
-    if !is_same_words(t, u, at + 4, 12) {
+    if !is_same_words(t, u, at + 4, 11) {
         return false;
     }
     is_same_comment(one, t[at + 3], t[at + 4], other, u[at + 3], u[at + 4])
 }
 
-// Whether the first n records are the same.
-fn is_same_records(one: &[u8], t: &[i32], other: &[u8], u: &[i32], n: usize) -> bool {
+// Whether the first n records of the part at p and of that at q are the same.
+fn is_same_records(
+    one: &[u8],
+    p: usize,
+    t: &[i32],
+    other: &[u8],
+    q: usize,
+    u: &[i32],
+    n: usize,
+) -> bool {
     let mut k = 0;
     let mut at = 0;
     while k < n {
@@ -125,7 +152,7 @@ fn is_same_records(one: &[u8], t: &[i32], other: &[u8], u: &[i32], n: usize) -> 
         if u.len() - at < 16 {
             return false;
         }
-        if !is_same_record(one, t, other, u, at) {
+        if !is_same_record(one, p, t, other, q, u, at) {
             return false;
         }
         at += 16;
@@ -139,7 +166,7 @@ fn read_both(one: &[u8], p: usize, t: &mut [i32], other: &[u8], q: usize, u: &mu
     let a = read_part(one, p, t);
     let b = read_part(other, q, u);
     let is_same = if is_same_answer(a, p, b, q) {
-        is_same_records(one, t, other, u, a.records)
+        is_same_records(one, p, t, other, q, u, a.records)
     } else {
         false
     };

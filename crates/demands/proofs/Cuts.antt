@@ -1,6 +1,7 @@
 -- The cut law: the rules of a text with a `;` outside quotes are those before it and those behind it.
 use Prim.Native.Nat.{ℕ, zero, suc, _+_, _≤_, _<_}
 use mathlib.Core.List.{List, [], _∷_, _++_}
+use mathlib.Core.List as list
 use mathlib.Core.Bool.{Bool, true, false}
 use mathlib.Core.Path.{_≡_, refl, sym, ap, _∙_}
 use native.Mathlib.Omega.{arith}
@@ -16,7 +17,9 @@ use Rattle.names.specs.Texts.{byte}
 use Rattle.names.proofs.Local.{Stop, stop-at, Side, At, Ends, Past, moved, keep, Local, next-at, stays}
 use Rattle.names.proofs.Cut.{blanks-local}
 use Rattle.items.specs.Musts.{missingAt, missing, must}
+use Rattle.items.specs.Kinds.{Placed}
 use Rattle.items.proofs.Quotes.{missing-alike}
+use Rattle.items.proofs.Cut.{placedMoves}
 use Rattle.rules.specs.Separators.{commaBlank, bars, separator, next}
 use Rattle.rules.specs.Rules.{Rule}
 use Rattle.rules.specs.declared.Next.{Next}
@@ -111,8 +114,12 @@ start-still : (l start : ℕ) → startMoves 0 l start ≡ start
 start-still zero start = refl
 start-still (suc l) start = zero-add start
 
+items-still : (l : List Placed) → list.map (placedMoves 0) l ≡ l
+items-still [] = refl
+items-still (a ∷ l) = rw (zero-add (a .1), items-still l)
+
 rule-still : (r : Rule) → ruleMoves 0 r ≡ r
-rule-still r = rw (start-still (r .0 .comment .length) (r .0 .comment .start))
+rule-still r = rw (start-still (r .0 .comment .length) (r .0 .comment .start), zero-add (r .0 .place), items-still (r .1))
 
 -- the same rule, of a byte at least, and what stands behind it
 abbrev Steps : List ℕ → ℕ → Rule × Next → ℕ → Rule × Next → ℕ → Type 0

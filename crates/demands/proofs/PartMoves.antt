@@ -1,8 +1,8 @@
 -- A part of a text that stands behind u is answered as it is in its text, with the places moved; two moves are one, and a move by 0 is none.
-use Prim.Native.Nat.{ℕ, suc, _+_, _≤_}
+use Prim.Native.Nat.{ℕ, zero, suc, _+_, _≤_}
 use mathlib.Core.List.{List, [], _∷_, _++_, map}
-use mathlib.Core.Bool.{Bool, true, false, _&&_, not, and-false}
-use mathlib.Core.Path.{_≡_, refl}
+use mathlib.Core.Bool.{Bool, true, false}
+use mathlib.Core.Path.{_≡_, refl, ap, _∙_}
 use native.Mathlib.Omega.{arith}
 use native.Mathlib.Nat.{zero-add, add-suc}
 use lib.Dec.{ltb, eqb}
@@ -15,26 +15,62 @@ use Rattle.names.proofs.Local.{compare-add}
 use Rattle.sheet.specs.Parts.{begins, partEnd}
 use Rattle.sheet.specs.Sheets.{textOf}
 use Rattle.sheet.specs.PartReadings.{partAnswerOf, withNext, partOf}
-use Rattle.demands.specs.Moved.{is, movedRecord, movedReading, movedNext, movedPart}
+use Rattle.demands.specs.Moved.{movedWord, hasComment, movedRecord, movedReading, movedNext, movedPart}
 use Rattle.sheet.specs.declared.Answer.{Answer}
 use Rattle.sheet.specs.declared.PartAnswer.{PartAnswer}
 use Rattle.demands.proofs.TextMoves.{text-move}
 
 -- ---- two moves are one
 
+-- of a word
+word-twice : (k d e : ℕ) (r : List ℤ) → movedWord k d (movedWord k e r) ≡ movedWord k (d + e) r
+word-twice k d e [] = refl
+word-twice zero d e (x ∷ r) = rw (← +ℤ-assoc (pos d) (pos e) x)
+word-twice (suc k) d e (x ∷ r) = rw (word-twice k d e r)
+
+-- words that are not the same do not meddle
+word-other : (k l e : ℕ) (r : List ℤ) → (k ≡ l → ⊥) → getD (movedWord l e r) k (pos 0) ≡ getD r k (pos 0)
+word-other k l e [] h = refl
+word-other zero zero e (x ∷ r) h = absurd (h refl)
+word-other zero (suc l) e (x ∷ r) h = refl
+word-other (suc k) zero e (x ∷ r) h = refl
+word-other (suc k) (suc l) e (x ∷ r) h = word-other k l e r (λ q. h (ap suc q))
+
+word-swap : (k l d e : ℕ) (r : List ℤ) → (k ≡ l → ⊥) → movedWord k d (movedWord l e r) ≡ movedWord l e (movedWord k d r)
+word-swap k l d e [] h = refl
+word-swap zero zero d e (x ∷ r) h = absurd (h refl)
+word-swap zero (suc l) d e (x ∷ r) h = refl
+word-swap (suc k) zero d e (x ∷ r) h = refl
+word-swap (suc k) (suc l) d e (x ∷ r) h = rw (word-swap k l d e r (λ q. h (ap suc q)))
+
+-- of a comment's start
+abbrev movedStart : ℕ → List ℤ → List ℤ
+movedStart d r = if hasComment r then movedWord 3 d r else r
+
+-- whether there is a comment, words 0 and 4 say
+comment-stays : (k e : ℕ) (r : List ℤ) → (0 ≡ k → ⊥) → (4 ≡ k → ⊥) → hasComment (movedWord k e r) ≡ hasComment r
+comment-stays k e r h g = rw (word-other 0 k e r h, word-other 4 k e r g)
+
+start-twice : (d e : ℕ) (r : List ℤ) → movedStart d (movedStart e r) ≡ movedStart (d + e) r
+start-twice d e r = go (hasComment r) refl
+  where
+    go : (t : Bool) → hasComment r ≡ t → movedStart d (if t then movedWord 3 e r else r) ≡ (if t then movedWord 3 (d + e) r else r)
+    go true h = rw (comment-stays 3 e r (λ q. omega arith) (λ q. omega arith), h) (word-twice 3 d e r)
+    go false h = rw h
+
+-- a place moves beside it
+start-place : (d e : ℕ) (r : List ℤ) → movedStart d (movedWord 15 e r) ≡ movedWord 15 e (movedStart d r)
+start-place d e r = rw (comment-stays 15 e r (λ q. omega arith) (λ q. omega arith)) (go (hasComment r))
+  where
+    go : (t : Bool) → (if t then movedWord 3 d (movedWord 15 e r) else movedWord 15 e r) ≡ movedWord 15 e (if t then movedWord 3 d r else r)
+    go true = word-swap 3 15 d e r (λ q. omega arith)
+    go false = refl
+
 -- of a record
 record-twice : (d e : ℕ) (r : List ℤ) → movedRecord d (movedRecord e r) ≡ movedRecord (d + e) r
 unfolding movedRecord
-record-twice d e [] = refl
-record-twice d e (a ∷ []) = rw (and-false (is 1 a), and-false (is 1 a))
-record-twice d e (a ∷ b ∷ []) = rw (and-false (is 1 a), and-false (is 1 a))
-record-twice d e (a ∷ b ∷ c ∷ []) = rw (and-false (is 1 a), and-false (is 1 a))
-record-twice d e (a ∷ b ∷ c ∷ x ∷ []) = rw (and-false (is 1 a), and-false (is 1 a))
-record-twice d e (a ∷ b ∷ c ∷ x ∷ y ∷ r) = go (is 1 a && not (is 0 y)) refl
-  where
-    go : (t : Bool) → (is 1 a && not (is 0 y)) ≡ t → movedRecord d (if t then a ∷ b ∷ c ∷ (pos e +ℤ x) ∷ y ∷ r else a ∷ b ∷ c ∷ x ∷ y ∷ r) ≡ (if t then a ∷ b ∷ c ∷ (pos (d + e) +ℤ x) ∷ y ∷ r else a ∷ b ∷ c ∷ x ∷ y ∷ r)
-    go true h = rw (h, ← +ℤ-assoc (pos d) (pos e) x)
-    go false h = rw h
+record-twice d e r =
+    ap (movedWord 15 d) (start-place d e (movedStart e r)) ∙ word-twice 15 d e (movedStart d (movedStart e r)) ∙ ap (movedWord 15 (d + e)) (start-twice d e r)
 
 -- of records
 records-twice : (d e : ℕ) (l : List (List ℤ)) → map (movedRecord d) (map (movedRecord e) l) ≡ map (movedRecord (d + e)) l
@@ -57,10 +93,14 @@ part-twice d e r = rw (records-twice d e (r .1), place-twice d e (eqb (r .0 .num
 
 -- ---- a move by 0 is none
 
+-- of a word
+word-still : (k : ℕ) (r : List ℤ) → movedWord k 0 r ≡ r
+word-still k r = rw (+ℤ-idl (getD r k (pos 0)), set-getD r k (pos 0))
+
 -- of a record
 record-still : (r : List ℤ) → movedRecord 0 r ≡ r
 unfolding movedRecord
-record-still r = rw (+ℤ-idl (getD r 3 (pos 0)), set-getD r 3 (pos 0)) (same (is 1 (getD r 0 (pos 0)) && not (is 0 (getD r 4 (pos 0)))))
+record-still r = rw (word-still 3 r) (ap (movedWord 15 0) (same (hasComment r)) ∙ word-still 15 r)
   where
     same : (t : Bool) → (if t then r else r) ≡ r
     same true = refl

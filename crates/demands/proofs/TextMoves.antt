@@ -6,22 +6,24 @@ use mathlib.Core.Path.{_≡_, refl}
 use native.Mathlib.Omega.{arith}
 use lib.Dec.{ltb, eqb·suc-zero}
 use lib.IntN.{ℤ, pos}
-use lib.ListN.{length, drop, length-map}
+use lib.ListN.{length, drop, set, length-map}
 use lib.Seq.{drop-append-add}
 use Rattle.names.specs.Tests.{if_then_else_}
 use Rattle.names.specs.Read.{Read, got, none, refused}
 use Rattle.names.proofs.Local.{stop-end, Ends, moved}
-use Rattle.records.specs.Words.{record16, wordsOf}
+use Rattle.records.specs.Words.{record16, wordsOf, placedAt}
 use Rattle.records.specs.declared.Item.{Item}
 use Rattle.records.specs.declared.Item.the-variants.{Years, Months, Dates, Weeks, Weekdays, Holidays, Times}
 use Rattle.rules.specs.Rules.{Rule}
 use Rattle.rules.specs.declared.Head.{Head}
 use Rattle.rules.proofs.Cut.{startMoves, headMoves, ruleMoves}
-use Rattle.sheet.specs.Heads.{headWords}
+use Rattle.items.specs.Kinds.{Placed}
+use Rattle.items.proofs.Cut.{placedMoves}
+use Rattle.sheet.specs.Heads.{headWords, itemRecord}
 use Rattle.sheet.specs.Texts.{rules, records}
 use Rattle.sheet.specs.Warnings.{warningsOf}
 use Rattle.sheet.specs.Sheets.{answerOf, refusal, judgedText, textOf}
-use Rattle.demands.specs.Moved.{movedRecord, movedReading}
+use Rattle.demands.specs.Moved.{movedWord, hasComment, movedRecord, movedReading}
 use Rattle.sheet.proofs.Moves.{rulesMove, rules-ended, rules-move}
 
 -- ---- records
@@ -31,34 +33,45 @@ head-moves : (d : ℕ) (h : Head) → movedRecord d (headWords h) ≡ headWords 
 unfolding movedRecord headWords
 head-moves d h = go (h .comment .length)
   where
-    words : ℕ → ℕ → List ℤ
-    words start l = record16 (pos 1 ∷ pos (h .separator) ∷ pos (h .state) ∷ pos start ∷ pos l ∷ pos (h .items) ∷ [])
+    words : ℕ → ℕ → ℕ → List ℤ
+    words start l place = placedAt place (record16 (pos 1 ∷ pos (h .separator) ∷ pos (h .state) ∷ pos start ∷ pos l ∷ pos (h .items) ∷ []))
 
-    go : (l : ℕ) → movedRecord d (words (h .comment .start) l) ≡ words (startMoves d l (h .comment .start)) l
+    go : (l : ℕ) → movedRecord d (words (h .comment .start) l (h .place)) ≡ words (startMoves d l (h .comment .start)) l (d + h .place)
     go zero = refl
     go (suc l) = rw (eqb·suc-zero l)
 
--- the words of an item hold no place
-item-stays : (d : ℕ) (a : Item) → movedRecord d (wordsOf a) ≡ wordsOf a
-unfolding movedRecord wordsOf
-item-stays d (Years r) = refl
-item-stays d (Months r) = refl
-item-stays d (Dates r) = refl
-item-stays d (Weeks r) = refl
-item-stays d (Weekdays r) = refl
-item-stays d (Holidays r) = refl
-item-stays d (Times r) = refl
+-- an item is no head
+no-comment : (p : ℕ) (a : Item) → hasComment (placedAt p (wordsOf a)) ≡ false
+unfolding wordsOf
+no-comment p (Years r) = refl
+no-comment p (Months r) = refl
+no-comment p (Dates r) = refl
+no-comment p (Weeks r) = refl
+no-comment p (Weekdays r) = refl
+no-comment p (Holidays r) = refl
+no-comment p (Times r) = refl
 
--- nor do those of a list of items
-items-stay : (d : ℕ) (l : List Item) → map (movedRecord d) (map wordsOf l) ≡ map wordsOf l
-items-stay d [] = refl
-items-stay d (a ∷ l) = rw (item-stays d a, items-stay d l)
+-- a word that is a place moves
+place-moves : (k d p : ℕ) (ws : List ℤ) → movedWord k d (set ws k (pos p)) ≡ set ws k (pos (d + p))
+place-moves k d p [] = refl
+place-moves zero d p (w ∷ ws) = refl
+place-moves (suc k) d p (w ∷ ws) = rw (place-moves k d p ws)
+
+-- of an item's words its place moves
+item-moves : (d p : ℕ) (a : Item) → movedRecord d (itemRecord (a, p)) ≡ itemRecord (a, d + p)
+unfolding movedRecord itemRecord
+item-moves d p a = rw (no-comment p a) (place-moves 15 d p (wordsOf a))
+
+-- of a list of items each one's does
+items-move : (d : ℕ) (l : List Placed) → map (movedRecord d) (map itemRecord l) ≡ map itemRecord (map (placedMoves d) l)
+items-move d [] = refl
+items-move d (a ∷ l) = rw (item-moves d (a .1) (a .0), items-move d l)
 
 -- the records of rules that move
 records-move : (d : ℕ) (l : List Rule) → records (map (ruleMoves d) l) ≡ map (movedRecord d) (records l)
 unfolding records
 records-move d [] = refl
-records-move d (r ∷ l) = rw (records-move d l, map-append (movedRecord d) (map wordsOf (r .1)) (records l), items-stay d (r .1), head-moves d (r .0))
+records-move d (r ∷ l) = rw (records-move d l, map-append (movedRecord d) (map itemRecord (r .1)) (records l), items-move d (r .1), head-moves d (r .0))
 
 -- ---- answers
 

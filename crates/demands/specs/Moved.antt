@@ -16,9 +16,17 @@ abbrev pub is : ℕ → ℤ → Bool
 is k (pos n) = eqb n k
 is k (negsuc n) = false
 
--- the comment start of a head (word 3) moves where its length (word 4) is not 0
+-- a word of a record moves
+abbrev pub movedWord : ℕ → ℕ → List ℤ → List ℤ
+movedWord k d r = set r k (pos d +ℤ getD r k (pos 0))
+
+-- a record that is a head with a comment: word 4 is the comment's length
+abbrev pub hasComment : List ℤ → Bool
+hasComment r = is 1 (getD r 0 (pos 0)) && not (is 0 (getD r 4 (pos 0)))
+
+-- the comment's start (word 3) moves where there is a comment, the place (word 15) of every record
 unfoldable pub movedRecord : ℕ → List ℤ → List ℤ
-movedRecord d r = if is 1 (getD r 0 (pos 0)) && not (is 0 (getD r 4 (pos 0))) then set r 3 (pos d +ℤ getD r 3 (pos 0)) else r
+movedRecord d r = movedWord 15 d (if hasComment r then movedWord 3 d r else r)
 
 -- a place moves where the number is not 0
 abbrev pub movedPlace : ℕ → ℕ → ℕ → ℕ

@@ -93,7 +93,7 @@ fn kind_of(b: u8) -> u16 {
 // An answer as a line shows it.
 fn shown(r: Stands) -> Text {
     match r {
-        Stands::Item(item, _, c) => Text::new()
+        Stands::Item(item, _, _, c) => Text::new()
             .put_words(words_of(item))
             .put_all(b"to ")
             .put_number(c.at as u64),

@@ -1,11 +1,12 @@
 -- Each definition depends on nothing before its place and nothing from a `;` outside quotes on.
-use Prim.Native.Nat.{ℕ}
+use Prim.Native.Nat.{ℕ, _+_}
 use mathlib.Core.List.{List, [], _∷_}
 use mathlib.Core.Bool.{false}
 use native.Mathlib.Omega.{arith}
-use Rattle.names.specs.Read.{Reader, refused}
+use Rattle.names.specs.Read.{Reader, branch, nothing, pure, refused}
 use Rattle.names.specs.Names as names
-use Rattle.names.proofs.Local.{Stop, Local, loose, free, nothing-local, pure-local, branch-local, bind-local, then-local, or-local}
+use Rattle.names.proofs.Local.{Stop, Local, loose, free, nothing-local, pure-local, here-local, branch-moved, bind-local, then-local, or-local}
+use Rattle.names.proofs.Chains.{step-moves}
 use Rattle.names.proofs.Cut.{blanks-local, blank-local}
 use Rattle.names.proofs.NameCut.{name-local}
 use Rattle.records.specs.declared.Item.{Item}
@@ -14,7 +15,7 @@ use Rattle.times.proofs.Cut.{timeItem-alike}
 use Rattle.days.proofs.Cut.{weekdayItem-alike, holidayItem-alike}
 use Rattle.dates.proofs.Cut.{yearItem-alike, weekItem-alike, monthDayItem-alike}
 use Rattle.items.specs.Musts.{missingAt, missing, must}
-use Rattle.items.specs.Kinds.{apart, weeks, itemOf, itemIn}
+use Rattle.items.specs.Kinds.{apart, Placed, at, weeks, itemOf, itemIn}
 use Rattle.items.specs.declared.Kind.{Kind}
 use Rattle.items.proofs.Quotes.{missing-alike, missing-number}
 use Rattle.items.specs.declared.Kind.the-variants.{Years, MonthDays, Weeks, WeekNumbers, Weekdays, LastWeekdays, Holidays, LastHolidays, Times}
@@ -34,27 +35,39 @@ must-local M = or-local M missing-local
 
 -- ---- items
 
+-- the place of an item moves
+abbrev pub placedMoves : ℕ → Placed → Placed
+placedMoves n a = (a .0, n + a .1)
+
 module _ {u : List ℕ} where
-  pub apart-alike : {A : Type 0} {k : ℕ} {m : Reader A} → Alike u k m → Alike u 1 (apart m)
-  apart-alike M = then-local blank-local (λ _. free M)
+  pub apart-local : {A : Type 0} {sh : ℕ → A → A} {k : ℕ} {m′ m : Reader A} → Local Stop sh u false false k m′ m → Local Stop sh u false false 1 (apart m′) (apart m)
+  apart-local M = then-local blank-local (λ _. free M)
 
-  weeks-alike : Alike u 1 weeks
+  -- an item at its place
+  pub at-local : {k : ℕ} {m : Reader Item} → Alike u k m → Local Stop placedMoves u false false k (at m) (at m)
+  at-local {m = m} M =
+      let f : ℕ → Reader Placed = λ p. branch m (λ a. pure (a, p)) nothing in
+      loose (branch-moved f f here-local (λ p. then-local M (λ a. pure-local (a, p))) nothing-local) (omega arith)
+
+  weeks-local : Local Stop placedMoves u false false 1 weeks weeks
   unfolding weeks
-  weeks-alike = then-local (name-local names.week) (λ _. must-local (free (apart-alike weekItem-alike)))
+  weeks-local = then-local (name-local names.week) (λ _. must-local (free (apart-local (at-local weekItem-alike))))
 
-  pub itemOf-alike : (k : Kind) → Alike u 1 (itemOf k)
+  pub itemOf-local : (k : Kind) → Local Stop placedMoves u false false 1 (itemOf k) (itemOf k)
   unfolding itemOf
-  itemOf-alike Years = loose yearItem-alike (omega arith)
-  itemOf-alike MonthDays = monthDayItem-alike
-  itemOf-alike Weeks = weeks-alike
-  itemOf-alike WeekNumbers = weekItem-alike
-  itemOf-alike Weekdays = weekdayItem-alike
-  itemOf-alike LastWeekdays = weekdayItem-alike
-  itemOf-alike Holidays = holidayItem-alike
-  itemOf-alike LastHolidays = holidayItem-alike
-  itemOf-alike Times = timeItem-alike
+  itemOf-local Years = loose (at-local yearItem-alike) (omega arith)
+  itemOf-local MonthDays = at-local monthDayItem-alike
+  itemOf-local Weeks = weeks-local
+  itemOf-local WeekNumbers = at-local weekItem-alike
+  itemOf-local Weekdays = at-local weekdayItem-alike
+  itemOf-local LastWeekdays = at-local weekdayItem-alike
+  itemOf-local Holidays = at-local holidayItem-alike
+  itemOf-local LastHolidays = at-local holidayItem-alike
+  itemOf-local Times = at-local timeItem-alike
 
-  pub itemIn-alike : (ks : List Kind) → Alike u 1 (itemIn ks)
+  pub itemIn-local : (ks : List Kind) → Local Stop (step-moves placedMoves) u false false 1 (itemIn ks) (itemIn ks)
   unfolding itemIn
-  itemIn-alike [] = nothing-local
-  itemIn-alike (k ∷ ks) = loose (branch-local {l = 0} (itemOf-alike k) (λ a. pure-local (a, k)) (loose (itemIn-alike ks) (omega arith))) (omega arith)
+  itemIn-local [] = nothing-local
+  itemIn-local (k ∷ ks) =
+      let f : Placed → Reader (Placed × Kind) = λ a. pure (a, k) in
+      loose (branch-moved {l = 0} f f (itemOf-local k) (λ a. pure-local (a, k)) (loose (itemIn-local ks) (omega arith))) (omega arith)

@@ -13,7 +13,7 @@ use Rattle.records.specs.declared.Item.{Item}
 use Rattle.records.specs.declared.ItemRead.{ItemRead}
 use Rattle.records.specs.declared.ItemRead.the-variants as item
 use Rattle.records.proofs.ItemRead as item-read
-use Rattle.items.specs.Kinds.{itemOf, itemIn}
+use Rattle.items.specs.Kinds.{Placed, itemOf, itemIn}
 use Rattle.items.specs.Sets.{hasKind, picked, yearly, numbered, kindsOf}
 use Rattle.items.specs.Seen.{Standing, withKind, Finds}
 use Rattle.items.specs.declared.Kind.{Kind}
@@ -32,26 +32,26 @@ passed-item item.Missing k e s i n = absurd (miss answered 1 tt k)
 passed-item (item.Refused l p) k e s i n = rw e
 
 -- what is found is what was read, in other words
-pub finds : (r : Stands) {m m₂ : Read (Item × Kind)} → m₂ ≡ m → Finds m r → Finds m₂ r
-finds r e h = subst (λ (x : Read (Item × Kind)). Finds x r) (sym e) h
+pub finds : (r : Stands) {m m₂ : Read (Placed × Kind)} → m₂ ≡ m → Finds m r → Finds m₂ r
+finds r e h = subst (λ (x : Read (Placed × Kind)). Finds x r) (sym e) h
 
 -- nothing was found
-pub finds-none : (m : Read (Item × Kind)) {r : Stands} → Finds m r → r ≡ stands.Nothing → m ≡ none
+pub finds-none : (m : Read (Placed × Kind)) {r : Stands} → Finds m r → r ≡ stands.Nothing → m ≡ none
 finds-none m h e = subst (Finds m) e h
 
 -- something was found: the others are not tried
 abbrev some : List ℕ
 some = 0 ∷ 1 ∷ 2 ∷ []
 
-pub finds-first : (m : Read (Item × Kind)) (r : Stands) → OneOf some (tagOf stands-read.the-type r) → Finds m r → (s : List ℕ) (i : ℕ) (n : Reader (Item × Kind)) → Finds (follow s i m pure n) r
-finds-first m (stands.Item a k c) o e s i n = rw e
+pub finds-first : (m : Read (Placed × Kind)) (r : Stands) → OneOf some (tagOf stands-read.the-type r) → Finds m r → (s : List ℕ) (i : ℕ) (n : Reader (Placed × Kind)) → Finds (follow s i m pure n) r
+finds-first m (stands.Item a p k c) o e s i n = rw e
 finds-first m (stands.Refused l p) o e s i n = rw e
 finds-first m (stands.Name l v c) o e s i n = e
 finds-first m stands.Nothing o e s i n = absurd (miss some 3 tt o)
 
 module _ (s : List ℕ) (i : ℕ) (set : ℕ) (k : Kind) where
   -- a kind alone
-  pub finds-one : (r : Stands) {x : Read Item} → hasKind set k ≡ true → itemOf k s i ≡ x → Finds (withKind k x) r → Finds (itemIn (picked set (k ∷ [])) s i) r
+  pub finds-one : (r : Stands) {x : Read Placed} → hasKind set k ≡ true → itemOf k s i ≡ x → Finds (withKind k x) r → Finds (itemIn (picked set (k ∷ [])) s i) r
   unfolding picked itemIn
   finds-one r e f h = finds r (pick-yes s i set k [] e ∙ or-none s i (withKind k (itemOf k s i)) (itemIn (picked set [])) refl ∙ ap (withKind k) f) h
 
@@ -70,7 +70,7 @@ module _ (s : List ℕ) (i : ℕ) (set : ℕ) (k : Kind) where
 module _ (s : List ℕ) (i set : ℕ) (w : word s i ≡ none) where
   -- what was found, where no name stands, is what stands there
   finds-standing : (r : Stands) → Finds (itemIn (kindsOf set) s i) r → Standing (kindsOf set) s i r
-  finds-standing (stands.Item a k c) e = e
+  finds-standing (stands.Item a p k c) e = e
   finds-standing (stands.Refused n p) e = e
   finds-standing (stands.Name n v c) e = absurd e
   finds-standing stands.Nothing e = (e, w)

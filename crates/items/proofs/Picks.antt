@@ -8,14 +8,14 @@ use Rattle.names.specs.Read.{Read, got, none, refused, Reader, follow, nothing,
 use Rattle.names.specs.Numbers.{year}
 use Rattle.names.specs.Names.{word}
 use Rattle.records.specs.declared.Item.{Item}
-use Rattle.items.specs.Kinds.{itemOf, itemIn}
+use Rattle.items.specs.Kinds.{Placed, itemOf, itemIn}
 use Rattle.items.specs.Sets.{hasKind, picked, yearly, numbered, kindsOf, beginsWith}
-use Rattle.items.specs.Seen.{withKind, wished, afterName}
+use Rattle.items.specs.Seen.{atPlace, placeOf, withKind, wished, afterName}
 use Rattle.items.specs.declared.Kind.{Kind}
 use Rattle.items.specs.declared.Kind.the-variants.{Years, MonthDays, Weeks, WeekNumbers, Weekdays, LastWeekdays, Holidays, LastHolidays, Times}
 use Rattle.items.specs.declared.Wish.{Wish}
 use Rattle.items.specs.declared.Wish.the-variants.{As, Not}
-use Rattle.items.proofs.Standing.{begun-none, begun-is, weekday-none, holiday-none, weeks-none, no-month-day, no-year-item}
+use Rattle.items.proofs.Standing.{none-at, begun-none, begun-is, weekday-none, holiday-none, weeks-none, no-month-day, no-year-item}
 
 module _ (s : List ℕ) (i : ℕ) where
   -- the first of several kinds, or the others
@@ -23,7 +23,7 @@ module _ (s : List ℕ) (i : ℕ) where
   unfolding itemIn
   item-first k ks = go (itemOf k s i)
     where
-      go : (r : Read Item) → follow s i r (λ a. pure (a, k)) (itemIn ks) ≡ follow s i (withKind k r) pure (itemIn ks)
+      go : (r : Read Placed) → follow s i r (λ a. pure (a, k)) (itemIn ks) ≡ follow s i (withKind k r) pure (itemIn ks)
       go (got a j) = refl
       go none = refl
       go (refused n p) = refl
@@ -55,7 +55,7 @@ module _ (s : List ℕ) (i : ℕ) where
       Then : Type 0
       Then = itemIn (picked set (ks ++ ls)) s i ≡ follow s i (itemIn (picked set ks) s i) pure (itemIn (picked set ls))
 
-      first : Then → (r : Read (Item × Kind)) → follow s i r pure (itemIn (picked set (ks ++ ls))) ≡ follow s i (follow s i r pure (itemIn (picked set ks))) pure (itemIn (picked set ls))
+      first : Then → (r : Read (Placed × Kind)) → follow s i r pure (itemIn (picked set (ks ++ ls))) ≡ follow s i (follow s i r pure (itemIn (picked set ks))) pure (itemIn (picked set ls))
       first h (got a j) = refl
       first h none = h
       first h (refused n p) = refl
@@ -77,14 +77,14 @@ module _ (s : List ℕ) (i : ℕ) where
   -- nor where neither a year nor a name stands
   pub pick-yearless : (set : ℕ) → year s i ≡ none → word s i ≡ none → itemIn (picked set yearly) s i ≡ none
   unfolding picked itemIn itemOf
-  pick-yearless set e w = pick-none set MonthDays (Years ∷ []) (no-month-day s i e w) ∙ pick-none set Years [] (no-year-item s i e)
+  pick-yearless set e w = pick-none set MonthDays (Years ∷ []) (none-at s i (no-month-day s i e w)) ∙ pick-none set Years [] (none-at s i (no-year-item s i e))
 
   -- ---- where a name stands
 
   module _ {n v j : ℕ} (w : word s i ≡ got (n, v) j) where
     -- what a wish comes to
-    abbrev pub Wished : Wish → Read (Item × Kind)
-    Wished (As k) = withKind k (afterName i n v s j)
+    abbrev pub Wished : Wish → Read (Placed × Kind)
+    Wished (As k) = withKind k (atPlace s i (placeOf n i s j) (afterName i n v s j))
     Wished Not = none
 
     -- where none stands after the name, none of any kind does
@@ -103,7 +103,7 @@ module _ (s : List ℕ) (i : ℕ) where
     item-wished [] = refl
     item-wished (k ∷ ks) = item-first k ks ∙ go (item-wished ks) (beginsWith n k) refl
       where
-        first : (r : Read Item) → afterName i n v s j ≡ r → follow s i (withKind k r) pure (itemIn ks) ≡ withKind k r
+        first : (r : Read Item) → afterName i n v s j ≡ r → follow s i (withKind k (atPlace s i (placeOf n i s j) r)) pure (itemIn ks) ≡ withKind k (atPlace s i (placeOf n i s j) r)
         first (got a l) e = refl
         first none e = none-after e ks
         first (refused m p) e = refl
@@ -114,7 +114,7 @@ module _ (s : List ℕ) (i : ℕ) where
 
     -- as what the item is wanted, and what stands after the name
     module _ (ks : List Kind) {k : Kind} (e : wished n ks ≡ As k) where
-      pub wished-item : {a : Item} {l : ℕ} → afterName i n v s j ≡ got a l → itemIn ks s i ≡ got (a, k) l
+      pub wished-item : {a : Item} {l : ℕ} → afterName i n v s j ≡ got a l → itemIn ks s i ≡ got ((a, placeOf n i s j), k) l
       wished-item f = rw (item-wished ks, e, f)
 
       pub wished-refused : {m p : ℕ} → afterName i n v s j ≡ refused m p → itemIn ks s i ≡ refused m p
@@ -135,7 +135,7 @@ module _ (s : List ℕ) (i : ℕ) where
     unfolding kindsOf itemOf
     item-unnamed = pick-then set yearly (Weeks ∷ Weekdays ∷ LastWeekdays ∷ Holidays ∷ LastHolidays ∷ numbered) ∙ go (itemIn (picked set yearly) s i)
       where
-        go : (r : Read (Item × Kind)) → follow s i r pure (itemIn (picked set (Weeks ∷ Weekdays ∷ LastWeekdays ∷ Holidays ∷ LastHolidays ∷ numbered))) ≡ follow s i r pure (itemIn (picked set numbered))
+        go : (r : Read (Placed × Kind)) → follow s i r pure (itemIn (picked set (Weeks ∷ Weekdays ∷ LastWeekdays ∷ Holidays ∷ LastHolidays ∷ numbered))) ≡ follow s i r pure (itemIn (picked set numbered))
         go (got a j) = refl
         go none =
             pick-none set Weeks _ (weeks-none s i w) ∙ pick-none set Weekdays _ (weekday-none s i w) ∙ pick-none set LastWeekdays _ (weekday-none s i w)

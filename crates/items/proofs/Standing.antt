@@ -9,7 +9,7 @@ use lib.Dec.{eqb, ltb}
 use lib.ListN.{length, getD}
 use Rattle.names.specs.Tests.{if_then_else_, within}
 use Rattle.names.specs.Read.{Read, got, none, refused, Reader, follow, nothing, pure, unless, when, one, _>>_}
-use Rattle.names.specs.Texts.{byte, blank}
+use Rattle.names.specs.Texts.{byte, blank, blanks}
 use Rattle.names.specs.Numbers.{isDigit, digit, enough, upTo, digits, clockBehind, number, year, hour}
 use Rattle.names.specs.Names.{word, name, weekday, month, event, easter, holiday, week}
 use Rattle.names.proofs.Laws.{one-is, within-above, within-range, or-none}
@@ -26,14 +26,23 @@ use Rattle.dates.specs.Years.{yearBehind, yearShape, yearMeaning, yearItem, yea
 use Rattle.dates.specs.MonthDays.{monthItemBehind, monthDayBehind, monthDayItem}
 use Rattle.dates.specs.declared.Year.the-variants.{Absent, Given}
 use Rattle.dates.specs.Weeks.{weekShape, weekItem}
-use Rattle.items.specs.Musts.{must}
-use Rattle.items.specs.Kinds.{apart, weeks, itemOf}
+use Rattle.items.specs.Musts.{missingAt, missing, must}
+use Rattle.items.specs.Kinds.{apart, Placed, at, weeks, itemOf}
 use Rattle.items.specs.Sets.{beginsWith}
-use Rattle.items.specs.Seen.{afterName}
+use Rattle.items.specs.Seen.{atPlace, placeAfter, placeOf, afterName}
 use Rattle.items.specs.declared.Kind.{Kind}
+use Rattle.items.proofs.Blanks.{blanks-again}
 use Rattle.items.specs.declared.Kind.the-variants.{Years, MonthDays, Weeks, WeekNumbers, Weekdays, LastWeekdays, Holidays, LastHolidays, Times}
 
 module _ (s : List ℕ) (i : ℕ) where
+  -- no item, and so none at its place
+  pub none-at : {r : Read Item} → r ≡ none → atPlace s i i r ≡ none
+  none-at e = rw e
+
+  -- an item at its place, from what was read
+  pub item-at : {r t : Read Item} → r ≡ t → atPlace s i i r ≡ atPlace s i i t
+  item-at e = rw e
+
   -- a name of a kind, from the name that stands here
   pub name-is : {k v j : ℕ} (x : ℕ) → word s i ≡ got (k, v) j → k ≡ x → name x s i ≡ got v j
   unfolding name
@@ -130,7 +139,7 @@ module _ (s : List ℕ) (i : ℕ) where
     unfolding monthDayBehind monthItemBehind dayBehind
     no-date e f = month-day ∙ rw (ne-eqb k easter f, ne-eqb k month e)
 
-    is-weeks : k ≡ week → weeks s i ≡ must (apart weekItem) s j
+    is-weeks : k ≡ week → weeks s i ≡ must (apart (at weekItem)) s j
     unfolding weeks
     is-weeks e = rw (name-is week w e)
 
@@ -146,15 +155,15 @@ module _ (s : List ℕ) (i : ℕ) where
     -- an item of a kind that begins with no such name
     pub begun-none : (x : Kind) → beginsWith k x ≡ false → itemOf x s i ≡ none
     unfolding itemOf beginsWith
-    begun-none Years e = no-year
-    begun-none MonthDays e = let n = neither (eqb k month) (eqb k easter) e in no-date (eqb-false k month (n .0)) (eqb-false k easter (n .1))
+    begun-none Years e = none-at no-year
+    begun-none MonthDays e = let n = neither (eqb k month) (eqb k easter) e in none-at (no-date (eqb-false k month (n .0)) (eqb-false k easter (n .1)))
     begun-none Weeks e = no-weeks (eqb-false k week e)
-    begun-none WeekNumbers e = week-none no-digit
-    begun-none Weekdays e = no-weekday (eqb-false k weekday e)
-    begun-none LastWeekdays e = no-weekday (eqb-false k weekday e)
-    begun-none Holidays e = no-holiday (eqb-false k holiday e)
-    begun-none LastHolidays e = no-holiday (eqb-false k holiday e)
-    begun-none Times e = other-time (eqb-false k event e)
+    begun-none WeekNumbers e = none-at (week-none no-digit)
+    begun-none Weekdays e = none-at (no-weekday (eqb-false k weekday e))
+    begun-none LastWeekdays e = none-at (no-weekday (eqb-false k weekday e))
+    begun-none Holidays e = none-at (no-holiday (eqb-false k holiday e))
+    begun-none LastHolidays e = none-at (no-holiday (eqb-false k holiday e))
+    begun-none Times e = none-at (other-time (eqb-false k event e))
 
     -- after the name, by its kind
     after-weekday : k ≡ weekday → afterName i k v ≡ weekdayItemBehind i v
@@ -179,31 +188,64 @@ module _ (s : List ℕ) (i : ℕ) where
     unfolding afterName
     after-week e = rw (ne-eqb k weekday (λ q. omega arith), ne-eqb k month (λ q. omega arith), ne-eqb k easter (λ q. omega arith), ne-eqb k event (λ q. omega arith), ne-eqb k holiday (λ q. omega arith), eq-eqb k week e)
 
-    at : {m n : Reader Item} → m ≡ n → m s j ≡ n s j
-    at e = ap (λ (m : Reader Item). m s j) e
+    -- what is missing is missing whatever was to stand there
+    lacks : (p : ℕ) → missing {A = Placed} s j ≡ atPlace s i p (missing s j)
+    unfolding missing
+    lacks p = go (blanks s j)
+      where
+        go : (b : Read (Unit {0})) → follow {B = Placed} s j b (λ _ s p. refused (missingAt s p) p) nothing ≡ atPlace s i p (follow s j b (λ _ s p. refused (missingAt s p) p) nothing)
+        go (got tt l) = refl
+        go none = refl
+        go (refused n q) = refl
+
+    -- a name that begins a date is not `week`
+    date-week : (t u : Bool) → eqb k month ≡ t → eqb k easter ≡ u → (t || u) ≡ true → k ≡ week → ⊥
+    date-week true u e f h q = let d = eqb-true k month e in omega arith
+    date-week false true e f h q = let d = eqb-true k easter f in omega arith
+    date-week false false e f h q = true≢false (sym h)
+
+    -- at the place of an item that begins with its name
+    placed : {r : Read Item} {n : Reader Item} → (k ≡ week → ⊥) → r ≡ n s j → afterName i k v ≡ n → atPlace s i i r ≡ atPlace s i (placeOf k i s j) (afterName i k v s j)
+    unfolding placeOf
+    placed h e f = item-at e ∙ rw (ne-eqb k week h, f)
+
+    -- a week at its number
+    placed-week : k ≡ week → weeks s i ≡ atPlace s i (placeOf k i s j) (afterName i k v s j)
+    unfolding placeOf
+    placed-week e = is-weeks e ∙ rw (eq-eqb k week e, after-week e) (go (blank s j) refl)
+      where
+        go : (b : Read (Unit {0})) → blank s j ≡ b → follow s j (follow s j b (λ _. at weekItem) nothing) pure missing ≡ atPlace s i (placeAfter (blanks s j)) (follow s j (follow s j b (λ _. weekItem) nothing) pure missing)
+        go (got tt l) e = rw (blanks-again s j e .0) (number l (weekItem s l))
+          where
+            number : (l : ℕ) (r : Read Item) → follow s j (follow s l r (λ a. pure (a, l)) nothing) pure missing ≡ atPlace s i l (follow s j r pure missing)
+            number l (got a m) = refl
+            number l none = lacks l
+            number l (refused n p) = refl
+        go none e = lacks (placeAfter (blanks s j))
+        go (refused n p) e = refl
 
     -- an item of a kind that begins with such a name is what stands after the name
-    pub begun-is : (x : Kind) → beginsWith k x ≡ true → itemOf x s i ≡ afterName i k v s j
+    pub begun-is : (x : Kind) → beginsWith k x ≡ true → itemOf x s i ≡ atPlace s i (placeOf k i s j) (afterName i k v s j)
     unfolding itemOf beginsWith
     begun-is Years e = absurd (true≢false (sym e))
-    begun-is MonthDays e = month-day ∙ sym (at (after-date (eqb k month) (eqb k easter) refl refl e))
-    begun-is Weeks e = let q = eqb-true k week e in is-weeks q ∙ sym (at (after-week q))
+    begun-is MonthDays e = placed (date-week (eqb k month) (eqb k easter) refl refl e) month-day (after-date (eqb k month) (eqb k easter) refl refl e)
+    begun-is Weeks e = placed-week (eqb-true k week e)
     begun-is WeekNumbers e = absurd (true≢false (sym e))
-    begun-is Weekdays e = let q = eqb-true k weekday e in is-weekday q ∙ sym (at (after-weekday q))
-    begun-is LastWeekdays e = let q = eqb-true k weekday e in is-weekday q ∙ sym (at (after-weekday q))
-    begun-is Holidays e = let q = eqb-true k holiday e in is-holiday q ∙ sym (at (after-holiday q))
-    begun-is LastHolidays e = let q = eqb-true k holiday e in is-holiday q ∙ sym (at (after-holiday q))
-    begun-is Times e = let q = eqb-true k event e in event-time q ∙ sym (at (after-event q))
+    begun-is Weekdays e = let q = eqb-true k weekday e in placed (λ w. omega arith) (is-weekday q) (after-weekday q)
+    begun-is LastWeekdays e = let q = eqb-true k weekday e in placed (λ w. omega arith) (is-weekday q) (after-weekday q)
+    begun-is Holidays e = let q = eqb-true k holiday e in placed (λ w. omega arith) (is-holiday q) (after-holiday q)
+    begun-is LastHolidays e = let q = eqb-true k holiday e in placed (λ w. omega arith) (is-holiday q) (after-holiday q)
+    begun-is Times e = let q = eqb-true k event e in placed (λ w. omega arith) (event-time q) (after-event q)
 
   -- ---- where no name stands
 
   module _ (w : word s i ≡ none) where
     -- none of the kinds that begin with a name
-    pub weekday-none : weekdayItem s i ≡ none
+    pub weekday-none : at weekdayItem s i ≡ none
     unfolding weekdayItem weekdayShape
     weekday-none = rw (name-none weekday w)
 
-    pub holiday-none : holidayItem s i ≡ none
+    pub holiday-none : at holidayItem s i ≡ none
     unfolding holidayItem holidayShape
     holiday-none = rw (name-none holiday w)
 

@@ -5,7 +5,7 @@ use mathlib.Core.Bool.{Bool}
 use mathlib.Core.Path.{_≡_}
 use lib.Dec.{eqb}
 use Rattle.names.specs.Tests.{if_then_else_}
-use Rattle.names.specs.Read.{Read, got, none, refused, Reader, nothing}
+use Rattle.names.specs.Read.{Read, got, none, refused, Reader, follow, nothing, pure}
 use Rattle.names.specs.Texts.{blanks}
 use Rattle.names.specs.Names.{word, weekday, month, event, easter, holiday, week}
 use Rattle.records.specs.declared.Item.{Item}
@@ -16,7 +16,7 @@ use Rattle.dates.specs.Weeks.{weekItem}
 use Rattle.dates.specs.MonthDays.{monthDayBehind}
 use Rattle.dates.specs.declared.Year.the-variants.{Absent}
 use Rattle.items.specs.Musts.{missingAt, must}
-use Rattle.items.specs.Kinds.{apart, itemIn}
+use Rattle.items.specs.Kinds.{apart, Placed, itemIn}
 use Rattle.items.specs.Sets.{beginsWith}
 use Rattle.items.specs.declared.Kind.{Kind}
 use Rattle.items.specs.declared.Lack.{Lack}
@@ -27,7 +27,7 @@ use Rattle.items.specs.declared.Stands.the-variants as stands
 
 -- what stands at the place i, where items of these kinds are wanted: such an item or its refusal, or else a name, or neither
 abbrev pub Standing : List Kind → List ℕ → ℕ → Stands → Type 0
-Standing ks s i (stands.Item a k c) = itemIn ks s i ≡ got (a, k) (c .at)
+Standing ks s i (stands.Item a p k c) = itemIn ks s i ≡ got ((a, p), k) (c .at)
 Standing ks s i (stands.Refused n p) = itemIn ks s i ≡ refused n p
 Standing ks s i (stands.Name n v c) = (itemIn ks s i ≡ none) × (word s i ≡ got (n, v) (c .at))
 Standing ks s i stands.Nothing = (itemIn ks s i ≡ none) × (word s i ≡ none)
@@ -36,15 +36,29 @@ Standing ks s i stands.Nothing = (itemIn ks s i ≡ none) × (word s i ≡ none)
 abbrev pub Lacking : List ℕ → ℕ → Lack → Type 0
 Lacking s i r = (blanks s i ≡ got tt (r .place)) × (r .number ≡ missingAt s (r .place))
 
+-- what was read of an item at i, which has its place at p
+abbrev pub atPlace : List ℕ → ℕ → ℕ → Read Item → Read Placed
+atPlace s i p r = follow s i r (λ a. pure (a, p)) nothing
+
+-- where a reading ends
+abbrev pub placeAfter : {A : Type 0} → Read A → ℕ
+placeAfter (got a j) = j
+placeAfter none = 0
+placeAfter (refused k p) = 0
+
+-- the place of the item that begins at i with a name of kind n, up to j: a week's is where its number begins
+unfoldable pub placeOf : ℕ → ℕ → List ℕ → ℕ → ℕ
+placeOf n i s j = if eqb n week then placeAfter (blanks s j) else i
+
 -- an item of this kind
-abbrev pub withKind : Kind → Read Item → Read (Item × Kind)
+abbrev pub withKind : Kind → Read Placed → Read (Placed × Kind)
 withKind k (got a j) = got (a, k) j
 withKind k none = none
 withKind k (refused n p) = refused n p
 
 -- an answer of those who look for no name: it says what was read, and names none
-abbrev pub Finds : Read (Item × Kind) → Stands → Type 0
-Finds m (stands.Item a k c) = m ≡ got (a, k) (c .at)
+abbrev pub Finds : Read (Placed × Kind) → Stands → Type 0
+Finds m (stands.Item a p k c) = m ≡ got ((a, p), k) (c .at)
 Finds m (stands.Refused n p) = m ≡ refused n p
 Finds m (stands.Name n v c) = ⊥
 Finds m stands.Nothing = m ≡ none

@@ -10,7 +10,7 @@ ghost use Rattle.dates.specs.Weeks.{weekItem};
 ghost use Rattle.dates.specs.MonthDays.{monthDayItem};
 ghost use Rattle.items.specs.Kinds.{apart, itemIn};
 ghost use Rattle.items.specs.Sets.{hasKind, picked, yearly, numbered, kindsOf};
-ghost use Rattle.items.specs.Seen.{Standing, withKind, Finds, afterName};
+ghost use Rattle.items.specs.Seen.{Standing, atPlace, withKind, Finds, afterName, placeOf};
 ghost use Rattle.items.specs.declared.Kind.the-variants.{Years, MonthDays, Times};
 use crate::Kind;
 use crate::Stands;
@@ -53,12 +53,12 @@ fn week_apart(s: &[u8], c: Cursor) -> ItemRead
     week_item(s, d)
 }
 
-// What reading an item of this kind finds, as what stands there.
-fn found(m: ItemRead, kind: Kind) -> Stands
-    ensures { λ r. ⌜ Finds (withKind kind (seenItem m)) r ⌝ }
+// What reading an item of this kind at c finds, as what stands there.
+fn found(s: &[u8], c: Cursor, m: ItemRead, kind: Kind) -> Stands
+    ensures { λ r. ⌜ Finds (withKind kind (atPlace (now (s .entry)) (c .at) (c .at) (seenItem m))) r ⌝ }
 {
     match m {
-        ItemRead::Got(a, c) => Stands::Item(a, kind, c),
+        ItemRead::Got(a, d) => Stands::Item(a, c.at, kind, d),
         ItemRead::Missing => Stands::Nothing,
         ItemRead::Refused(k, p) => Stands::Refused(k, p),
     }
@@ -78,6 +78,13 @@ fn begun(s: &[u8], c: Cursor, name: u8, value: u8, d: Cursor) -> ItemRead
     }
 }
 
+// The place of an item at c that begins with a name of this kind, up to d: a week's is where its number begins.
+fn place_of(s: &[u8], c: Cursor, name: u8, d: Cursor) -> usize
+    ensures { λ r. ⌜ r ≡ placeOf name (c .at) (now (s .entry)) (d .at) ⌝ }
+{
+    if name == WEEK { d.blanks(s).at } else { c.at }
+}
+
 // What stands at c, where a name of this kind and value stands, up to d.
 fn named(s: &[u8], c: Cursor, set: u16, name: u8, value: u8, d: Cursor) -> Stands
     requires { ⌜ word (now s) (c .at) ≡ got (name, value) (d .at) ⌝ }
@@ -89,7 +96,7 @@ fn named(s: &[u8], c: Cursor, set: u16, name: u8, value: u8, d: Cursor) -> Stand
     };
     let item = begun(s, c, name, value, d);
     match item {
-        ItemRead::Got(a, e) => Stands::Item(a, kind, e),
+        ItemRead::Got(a, e) => Stands::Item(a, place_of(s, c, name, d), kind, e),
         ItemRead::Missing => Stands::Name(name, value, d),
         ItemRead::Refused(k, p) => Stands::Refused(k, p),
     }
@@ -117,7 +124,7 @@ fn month_day(s: &[u8], c: Cursor, set: u16, y: u16, d: Cursor) -> Stands
     ensures { λ r. ⌜ Finds (itemIn (picked set (MonthDays ∷ [])) (now (s .entry)) (c .at)) r ⌝ }
 {
     if has(set, MONTH_DAYS) {
-        found(dated(s, c, y, d), Kind::MonthDays)
+        found(s, c, dated(s, c, y, d), Kind::MonthDays)
     } else {
         Stands::Nothing
     }
@@ -133,7 +140,7 @@ fn with_year(s: &[u8], c: Cursor, set: u16, y: u16, d: Cursor) -> Stands
         return date;
     };
     if has(set, YEARS) {
-        found(year_item_behind(s, c.at, d, y), Kind::Years)
+        found(s, c, year_item_behind(s, c.at, d, y), Kind::Years)
     } else {
         Stands::Nothing
     }
@@ -171,7 +178,7 @@ fn time(s: &[u8], c: Cursor, set: u16) -> Stands
     ensures { λ r. ⌜ Finds (itemIn (picked set (Times ∷ [])) (now (s .entry)) (c .at)) r ⌝ }
 {
     if has(set, TIMES) {
-        found(time_item(s, c), Kind::Times)
+        found(s, c, time_item(s, c), Kind::Times)
     } else {
         Stands::Nothing
     }
@@ -186,7 +193,7 @@ fn with_number(s: &[u8], c: Cursor, set: u16) -> Stands
         return span;
     };
     if has(set, WEEK_NUMBERS) {
-        found(week_item(s, c), Kind::WeekNumbers)
+        found(s, c, week_item(s, c), Kind::WeekNumbers)
     } else {
         Stands::Nothing
     }

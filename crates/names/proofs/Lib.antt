@@ -1,4 +1,5 @@
 pub mod Found
+pub mod Upto
 pub mod Local
 pub mod Ended
 pub mod Fuel

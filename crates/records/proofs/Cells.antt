@@ -56,10 +56,9 @@ item-words (Holidays r) = omega arith
 item-words (Times r) = simp length-append (omega (arith, time-words (r .start), time-words (r .end)))
 
 -- those of a list of items
-pub items-sixteen : (l : List Item) → Sixteen (map wordsOf l)
+pub item-sixteen : (a : Item) → length (wordsOf a) ≡ 16
 unfolding wordsOf
-items-sixteen [] = tt
-items-sixteen (a ∷ l) = (filled-up (itemWords a) (item-words a), items-sixteen l)
+item-sixteen a = filled-up (itemWords a) (item-words a)
 
 -- ---- the cells of records in a table
 

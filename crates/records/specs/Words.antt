@@ -1,9 +1,9 @@
--- Record words: 16 to a record, unused words are 0.
+-- Record words: 16 to a record, unused words are 0. The last is a place in the sheet: the item's, a head's rule's.
 use Prim.Native.Nat.{ℕ, _-_}
 use mathlib.Core.List.{List, [], _∷_, _++_}
 use mathlib.Core.Bool.{Bool, true, false}
 use lib.IntN.{ℤ, pos, negsuc, negℤ}
-use lib.ListN.{length, replicate}
+use lib.ListN.{length, replicate, set}
 use Rattle.names.specs.Tests.{if_then_else_}
 use Rattle.records.specs.declared.Signed.{Signed}
 use Rattle.records.specs.declared.Day.{Day}
@@ -63,3 +63,7 @@ itemWords (Times r) = pos 8 ∷ timeWords r.start ++ timeWords r.end ++ (repeatW
 -- the 16 words of an item
 unfoldable pub wordsOf : Item → List ℤ
 wordsOf a = record16 (itemWords a)
+
+-- a record with its place, in word 15
+abbrev pub placedAt : ℕ → List ℤ → List ℤ
+placedAt place ws = set ws 15 (pos place)

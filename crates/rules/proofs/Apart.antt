@@ -5,7 +5,7 @@ use Rattle.rules.specs.declared.OpeningRead.{OpeningRead}
 use Rattle.rules.specs.declared.OpeningRead.the-variants as opening
 use Rattle.rules.specs.declared.CommentRead.{CommentRead}
 use Rattle.rules.specs.declared.CommentRead.the-variants as comment
-use Rattle.records.specs.declared.Item.{Item}
+use Rattle.items.specs.Kinds.{Placed}
 use Rattle.rules.specs.declared.Stage.{Stage}
 use Rattle.rules.specs.declared.Stage.the-variants.{After}
 use Rattle.rules.specs.declared.Piece.{Piece}
@@ -27,15 +27,15 @@ comment-apart (comment.Refused k p) comment.Missing e = cc
 comment-apart (comment.Refused k p) (comment.Refused l q) e = cc
 
 pub piece-apart : (x y : Piece) → seenPiece x ≡ seenPiece y → x ≡ y
-piece-apart (piece.Item a k c) (piece.Item b l d) e =
-    let h : c .at ≡ d .at = cc in let z : _≡_ {A = Item × Stage} (a, After k) (b, After l) = cc in let p : a ≡ b = ap (λ (x : Item × Stage). x .0) z in let q : After k ≡ After l = ap (λ (x : Item × Stage). x .1) z in let r : k ≡ l = cc in
-    rw (p, r, h)
-piece-apart (piece.Item a k c) (piece.End t d) e = cc
-piece-apart (piece.Item a k c) (piece.Refused n p) e = cc
-piece-apart (piece.End t c) (piece.Item b l d) e = cc
+piece-apart (piece.Item a p k c) (piece.Item b q l d) e =
+    let h : c .at ≡ d .at = cc in let z : _≡_ {A = Placed × Stage} ((a, p), After k) ((b, q), After l) = cc in let e₀ : a ≡ b = ap (λ (x : Placed × Stage). x .0 .0) z in let e₁ : p ≡ q = ap (λ (x : Placed × Stage). x .0 .1) z in let e₂ : After k ≡ After l = ap (λ (x : Placed × Stage). x .1) z in let r : k ≡ l = cc in
+    rw (e₀, e₁, r, h)
+piece-apart (piece.Item a p k c) (piece.End t d) e = cc
+piece-apart (piece.Item a p k c) (piece.Refused n r) e = cc
+piece-apart (piece.End t c) (piece.Item b q l d) e = cc
 piece-apart (piece.End t c) (piece.End u d) e = let h : c .at ≡ d .at = cc in let k : t ≡ u = cc in rw (k, h)
 piece-apart (piece.End t c) (piece.Refused n p) e = cc
-piece-apart (piece.Refused n p) (piece.Item b l d) e = cc
+piece-apart (piece.Refused n p) (piece.Item b q l d) e = cc
 piece-apart (piece.Refused n p) (piece.End u d) e = cc
 piece-apart (piece.Refused n p) (piece.Refused m q) e = cc
 

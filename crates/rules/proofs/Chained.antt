@@ -9,9 +9,8 @@ use Rattle.names.specs.Chain.{before, last, chain}
 use Rattle.names.proofs.Local.{takes}
 use Rattle.names.proofs.Fuel.{chain-is}
 use Rattle.names.proofs.Skips.{map-map}
-use Rattle.records.specs.declared.Item.{Item}
 use Rattle.items.specs.Musts.{missing}
-use Rattle.items.specs.Kinds.{apart}
+use Rattle.items.specs.Kinds.{apart, Placed}
 use Rattle.items.proofs.Sure.{Sure, sure, then-sure, or-sure, missing-sure, chain-sure}
 use Rattle.rules.specs.Comments.{noComment}
 use Rattle.rules.specs.Modifiers.{modifier}
@@ -30,8 +29,8 @@ pub pieces-are : (x : Stage) (s : List ℕ) (i : ℕ) → chain more end x s i �
 pieces-are = chain-is more end (λ x. takes (more-local {u = []} x))
 
 -- what the pieces come to, whatever it is: by a piece more, by a refusal, or by the end
-module _ {A : Type 0} (f : List Item × Tail → A) (x : Stage) (s : List ℕ) (i : ℕ) where
-  pub piece-more : {a : Item} {y : Stage} {j : ℕ} → more x s i ≡ got (a, y) j → map f (chain more end x) s i ≡ map (λ r. f (before a r)) (chain more end y) s j
+module _ {A : Type 0} (f : List Placed × Tail → A) (x : Stage) (s : List ℕ) (i : ℕ) where
+  pub piece-more : {a : Placed} {y : Stage} {j : ℕ} → more x s i ≡ got (a, y) j → map f (chain more end x) s i ≡ map (λ r. f (before a r)) (chain more end y) s j
   piece-more {a} {y} {j} e = rw (pieces-are x s i, e) (map-map (before a) f s i j (chain more end y s j))
 
   pub piece-refused : {k p : ℕ} → more x s i ≡ refused k p → map f (chain more end x) s i ≡ refused k p
@@ -43,7 +42,7 @@ module _ {A : Type 0} (f : List Item × Tail → A) (x : Stage) (s : List ℕ) (
 -- ---- what a piece is
 
 abbrev Piece : Type 0
-Piece = (Item × Stage) ⊎ Tail
+Piece = (Placed × Stage) ⊎ Tail
 
 module _ (x : Stage) (s : List ℕ) (i : ℕ) where
   -- what a rule's end comes to
@@ -51,7 +50,7 @@ module _ (x : Stage) (s : List ℕ) (i : ℕ) where
   ends t = follow s i t (λ b. pure (inr b)) nothing
 
   -- an item
-  pub piece-item : {a : Item × Stage} {j : ℕ} → piece x s i ≡ got (inl a) j → more x s i ≡ got a j
+  pub piece-item : {a : Placed × Stage} {j : ℕ} → piece x s i ≡ got (inl a) j → more x s i ≡ got a j
   unfolding piece
   piece-item {a} {j} e = go (more x s i) e
     where
@@ -60,7 +59,7 @@ module _ (x : Stage) (s : List ℕ) (i : ℕ) where
       ended none e = cc
       ended (refused k p) e = cc
 
-      go : (r : Read (Item × Stage)) → follow s i r (λ b. pure (inl b)) (map inr (end x)) ≡ got (inl a) j → r ≡ got a j
+      go : (r : Read (Placed × Stage)) → follow s i r (λ b. pure (inl b)) (map inr (end x)) ≡ got (inl a) j → r ≡ got a j
       go (got b k) e = let h : k ≡ j = cc in let q : b ≡ a = cc in rw (h, q)
       go none e = ended (end x s i) e
       go (refused k p) e = cc
@@ -70,14 +69,14 @@ module _ (x : Stage) (s : List ℕ) (i : ℕ) where
   unfolding piece
   piece-none {t} {j} e = go (more x s i) e
     where
-      go : (r : Read (Item × Stage)) → follow s i r (λ b. pure (inl b)) (map inr (end x)) ≡ got (inr t) j → r ≡ none
+      go : (r : Read (Placed × Stage)) → follow s i r (λ b. pure (inl b)) (map inr (end x)) ≡ got (inr t) j → r ≡ none
       go (got b k) e = cc
       go none e = refl
       go (refused k p) e = cc
 
   pub piece-tail : {t : Tail} {j : ℕ} → piece x s i ≡ got (inr t) j → end x s i ≡ got t j
   unfolding piece
-  piece-tail {t} {j} e = go (end x s i) (subst (λ (r : Read (Item × Stage)). follow s i r (λ b. pure (inl b)) (map inr (end x)) ≡ got (inr t) j) (piece-none e) e)
+  piece-tail {t} {j} e = go (end x s i) (subst (λ (r : Read (Placed × Stage)). follow s i r (λ b. pure (inl b)) (map inr (end x)) ≡ got (inr t) j) (piece-none e) e)
     where
       go : (r : Read Tail) → ends r ≡ got (inr t) j → r ≡ got t j
       go (got b k) e = let h : k ≡ j = cc in let q : b ≡ t = cc in rw (h, q)
@@ -85,7 +84,7 @@ module _ (x : Stage) (s : List ℕ) (i : ℕ) where
       go (refused k p) e = cc
 
   -- a refusal: what is left of the rule is refused
-  pub piece-refusal : {A : Type 0} (f : List Item × Tail → A) {k p : ℕ} → piece x s i ≡ refused k p → map f (chain more end x) s i ≡ refused k p
+  pub piece-refusal : {A : Type 0} (f : List Placed × Tail → A) {k p : ℕ} → piece x s i ≡ refused k p → map f (chain more end x) s i ≡ refused k p
   unfolding piece
   piece-refusal {A} f {k} {p} e = go (more x s i) refl e
     where
@@ -97,7 +96,7 @@ module _ (x : Stage) (s : List ℕ) (i : ℕ) where
       ended none e = absurd (let z : _≡_ {A = ℕ} 0 1 = cc in omega arith)
       ended (refused l r) e = again l r e
 
-      go : (r : Read (Item × Stage)) → more x s i ≡ r → follow {B = Piece} s i r (λ b. pure (inl b)) (map inr (end x)) ≡ refused k p → map f (chain more end x) s i ≡ refused k p
+      go : (r : Read (Placed × Stage)) → more x s i ≡ r → follow {B = Piece} s i r (λ b. pure (inl b)) (map inr (end x)) ≡ refused k p → map f (chain more end x) s i ≡ refused k p
       go (got b l) h e = absurd (let z : _≡_ {A = ℕ} 0 1 = cc in omega arith)
       go none h e = piece-end f x s i h ∙ ended (end x s i) e
       go (refused l r) h e = piece-refused f x s i h ∙ again l r e
@@ -120,5 +119,5 @@ pub rule-sure : (separator : ℕ) (s : List ℕ) (i : ℕ) → Sure (rule separa
 unfolding rule opening behind
 rule-sure separator s i =
     let plain : Reader Opening = pure (openingOf Beginning noComment) in
-    then-sure s i (behind separator) (opening s i) (or-sure s i (always s i) (branch wideComment pure plain) (or-sure s i (wideComment s i) plain tt)) (λ o j.
-    then-sure s j (λ r. pure (ruleOf separator (o .comment) r)) (chain more end (o .stage) s j) (chain-sure more end s (λ x. takes (more-local {u = []} x) s) (λ x k _. ended s k x) (o .stage) j) (λ _ _. tt))
+    then-sure s i (behind i separator) (opening s i) (or-sure s i (always s i) (branch wideComment pure plain) (or-sure s i (wideComment s i) plain tt)) (λ o j.
+    then-sure s j (λ r. pure (ruleOf i separator (o .comment) r)) (chain more end (o .stage) s j) (chain-sure more end s (λ x. takes (more-local {u = []} x) s) (λ x k _. ended s k x) (o .stage) j) (λ _ _. tt))

@@ -9,7 +9,7 @@ use native.Mathlib.Decide.{decLt}
 use native.Mathlib.Nat.{add-suc}
 use borrow.Author.Tests.{eq-eqb, ne-eqb, ltb-true}
 use lib.Dec.{ltb, eqb}
-use lib.ListN.{length, getD, length-append, List·getD-append}
+use lib.ListN.{length, getD, length-append, length-map, List·getD-append}
 use lib.Seq.{getD-append-add, getD-at}
 use Rattle.names.specs.Tests.{if_then_else_}
 use Rattle.names.specs.Read.{Read, got, none, refused, Reader, follow, branch, nothing, pure, refuse, here, when, only, one}
@@ -22,10 +22,9 @@ use Rattle.names.proofs.Ended.{byte-ended, atEnd-ended}
 use Rattle.names.proofs.Chains.{step-moves, chain-moves, chain-local, chain-takes, many-local}
 use Rattle.names.proofs.Cut.{byte-local, blanks-local, blank-local, comma-local}
 use Rattle.names.proofs.NameCut.{plain, allOf-local, name-local}
-use Rattle.records.specs.declared.Item.{Item}
-use Rattle.items.specs.Kinds.{apart}
+use Rattle.items.specs.Kinds.{apart, Placed}
 use Rattle.items.specs.declared.Kind.{Kind}
-use Rattle.items.proofs.Cut.{missing-local, must-local, itemIn-alike}
+use Rattle.items.proofs.Cut.{missing-local, must-local, placedMoves, itemIn-local}
 use Rattle.utf8.specs.Letters.{isInner, letters}
 use Rattle.utf8.proofs.Cut.{letters-local}
 use Rattle.rules.specs.Comments.{commentOf, noComment, closed, illFormed, comment, commentApart}
@@ -59,14 +58,14 @@ abbrev pub openingMoves : ℕ → Opening → Opening
 openingMoves n o = openingOf o.stage (commentMoves n o.comment)
 
 abbrev pub headMoves : ℕ → Head → Head
-headMoves n h = record { separator = h.separator; state = h.state; comment = commentMoves n h.comment; items = h.items }
+headMoves n h = record { place = n + h.place; separator = h.separator; state = h.state; comment = commentMoves n h.comment; items = h.items }
 
 abbrev pub ruleMoves : ℕ → Rule → Rule
-ruleMoves n r = (headMoves n (r .0), r .1)
+ruleMoves n r = (headMoves n (r .0), list.map (placedMoves n) (r .1))
 
--- the items of a rule hold no place; its end does
-abbrev pub piecesMoves : ℕ → List Item × Tail → List Item × Tail
-piecesMoves n r = (r .0, tailMoves n (r .1))
+-- the pieces of a rule
+abbrev pub piecesMoves : ℕ → List Placed × Tail → List Placed × Tail
+piecesMoves = chain-moves placedMoves tailMoves
 
 -- ---- comments
 
@@ -192,6 +191,11 @@ wideComment-local =
     let f : Comment → Reader Opening = λ c. branch (byte 58) (λ _. pure (openingOf Colon c)) nothing in
     branch-moved f f comment-local (λ c. then-local (byte-local 58 refl refl) (λ _. pure-local (openingOf Colon c))) nothing-local
 
+-- an opening takes any
+pub opening-local : {u : List ℕ} → Local Stop openingMoves u false false 0 opening opening
+unfolding opening
+opening-local = or-local (free always-local) (or-local (free wideComment-local) (pure-local (openingOf Beginning noComment)))
+
 -- ---- separators
 
 pub commaBlank-local : {u : List ℕ} → Local Stop keep u false false 1 commaBlank commaBlank
@@ -231,27 +235,31 @@ empty-local {k = k} =
 -- ---- pieces
 
 module _ {u : List ℕ} where
-  -- an item and the stage after it hold no place
-  pub itemFrom-alike : (ks : List Kind) → Local Stop (step-moves keep) u false false 1 (itemFrom ks) (itemFrom ks)
-  itemFrom-alike ks = map-local (λ a. (a .0, After (a .1))) (λ a. (a .0, After (a .1))) (λ a. refl) (itemIn-alike ks)
+  -- an item, and the stage after it, which holds no place
+  pub itemFrom-local : (ks : List Kind) → Local Stop (step-moves placedMoves) u false false 1 (itemFrom ks) (itemFrom ks)
+  itemFrom-local ks = map-local (λ a. (a .0, After (a .1))) (λ a. (a .0, After (a .1))) (λ a. refl) (itemIn-local ks)
 
-  pub afterColon-alike : Local Stop (step-moves keep) u false false 1 afterColon afterColon
-  afterColon-alike = must-local (then-local blank-local (λ _. free (itemFrom-alike small)))
+  pub afterColon-local : Local Stop (step-moves placedMoves) u false false 1 afterColon afterColon
+  afterColon-local = must-local (then-local blank-local (λ _. free (itemFrom-local small)))
 
-  goesOn-alike : (k : Kind) → Local Stop (step-moves keep) u false false 1 (goesOn k) (goesOn k)
+  goesOn-local : (k : Kind) → Local Stop (step-moves placedMoves) u false false 1 (goesOn k) (goesOn k)
   unfolding goesOn
-  goesOn-alike k = then-local comma-local (λ _. free (must-local (itemFrom-alike (listed k))))
+  goesOn-local k = then-local comma-local (λ _. free (must-local (itemFrom-local (listed k))))
 
-  colon-alike : (k : Kind) → Local Stop (step-moves keep) u false false 1 (colon k) (colon k)
-  unfolding colon colonSign
-  colon-alike k = then-local (loose (bind-local {k = 0} (only-local (isWide k)) (λ _. byte-local 58 refl refl)) (omega arith)) (λ _. free afterColon-alike)
+  pub colonSign-local : (k : Kind) → Local Stop keep u false false 1 (colonSign k) (colonSign k)
+  unfolding colonSign
+  colonSign-local k = loose (bind-local {k = 0} (only-local (isWide k)) (λ _. byte-local 58 refl refl)) (omega arith)
 
-  pub more-local : (x : Stage) → Local Stop (step-moves keep) u false false 1 (more x) (more x)
+  colon-local : (k : Kind) → Local Stop (step-moves placedMoves) u false false 1 (colon k) (colon k)
+  unfolding colon
+  colon-local k = then-local (colonSign-local k) (λ _. free afterColon-local)
+
+  pub more-local : (x : Stage) → Local Stop (step-moves placedMoves) u false false 1 (more x) (more x)
   unfolding more
-  more-local Beginning = itemFrom-alike first
+  more-local Beginning = itemFrom-local first
   more-local Always = nothing-local
-  more-local Colon = afterColon-alike
-  more-local (After k) = or-local (goesOn-alike k) (or-local (colon-alike k) (then-local blank-local (λ _. free (itemFrom-alike (following k)))))
+  more-local Colon = afterColon-local
+  more-local (After k) = or-local (goesOn-local k) (or-local (colon-local k) (then-local blank-local (λ _. free (itemFrom-local (following k)))))
 
   pub end-local : (x : Stage) → Local Stop tailMoves u false false 0 (end x) (end x)
   unfolding end plainEnd
@@ -265,17 +273,13 @@ module _ {u : List ℕ} where
   unfolding end plainEnd
   beginning-end = or-local modifier-local (or-local empty-local missing-local)
 
-  -- a list of items that stay stays
-  items-stay : {k : ℕ} (x : Stage) → Local Stop (chain-moves keep tailMoves) u false false k (chain more end x) (chain more end x) → Local Stop piecesMoves u false false k (chain more end x) (chain more end x)
-  items-stay x M = by M (λ r. ap (λ (l : List Item). (l, tailMoves (length u) (r .1))) (list.map-id (r .0)))
-
   -- the pieces of a rule
   pub pieces-local : (x : Stage) → Local Stop piecesMoves u false false 0 (chain more end x) (chain more end x)
-  pieces-local x = items-stay x (chain-local keep more-local end-local x)
+  pieces-local x = chain-local placedMoves more-local end-local x
 
   -- from the beginning, they and the end take a byte
   pub beginning-local : Local Stop piecesMoves u false false 1 (chain more end Beginning) (chain more end Beginning)
-  beginning-local = items-stay Beginning (chain-takes keep more-local end-local Beginning beginning-end)
+  beginning-local = chain-takes placedMoves more-local end-local Beginning beginning-end
 
 -- ---- a rule
 
@@ -289,9 +293,10 @@ wins-moves n c wide = go (eqb c.length 0)
     go false = refl
 
 -- the rule of pieces that move
-rule-moves : (n separator : ℕ) (wide : Comment) (r : List Item × Tail) → ruleOf separator (commentMoves n wide) (piecesMoves n r) ≡ ruleMoves n (ruleOf separator wide r)
-rule-moves n separator wide r =
-    ap (λ (c : Comment). (record { separator = separator; state = r .1 .state; comment = c; items = length (r .0) }, r .0)) (wins-moves n (r .1 .comment) wide)
+rule-moves : (n place separator : ℕ) (wide : Comment) (r : List Placed × Tail) → ruleOf (n + place) separator (commentMoves n wide) (piecesMoves n r) ≡ ruleMoves n (ruleOf place separator wide r)
+rule-moves n place separator wide r =
+    rw (length-map (r .0) (placedMoves n))
+    (ap (λ (c : Comment). (record { place = n + place; separator = separator; state = r .1 .state; comment = c; items = length (r .0) }, list.map (placedMoves n) (r .0))) (wins-moves n (r .1 .comment) wide))
 
 -- one reader or another, and what follows: read as the first and what follows, or the second and what follows
 or-then : {A B : Type 0} (m n : Reader A) (f : A → Reader B) (s : List ℕ) (i : ℕ) → branch (branch m pure n) f nothing s i ≡ branch m f (branch n f nothing) s i
@@ -316,21 +321,29 @@ or-then-moved {Q = Q} {sh₂ = sh₂} {u} {a} {c = c} {k} {m′} {m} n′ n f′
 
 module _ {u : List ℕ} (separator : ℕ) where
   -- what is behind an opening takes the bytes that its pieces and its end do
-  behind-takes : {k : ℕ} (o : Opening) → Local Stop piecesMoves u false false k (chain more end o.stage) (chain more end o.stage) → Local Stop ruleMoves u false false k (behind separator (openingMoves (length u) o)) (behind separator o)
+  behind-takes : {k : ℕ} (place : ℕ) (o : Opening) → Local Stop piecesMoves u false false k (chain more end o.stage) (chain more end o.stage) →
+      Local Stop ruleMoves u false false k (behind (length u + place) separator (openingMoves (length u) o)) (behind place separator o)
   unfolding behind
-  behind-takes o M = map-local (ruleOf separator (commentMoves (length u) o.comment)) (ruleOf separator o.comment) (rule-moves (length u) separator o.comment) M
+  behind-takes place o M = map-local (ruleOf (length u + place) separator (commentMoves (length u) o.comment)) (ruleOf place separator o.comment) (rule-moves (length u) place separator o.comment) M
 
-  pub behind-local : (o : Opening) → Local Stop ruleMoves u false false 0 (behind separator (openingMoves (length u) o)) (behind separator o)
-  behind-local o = behind-takes o (pieces-local o.stage)
+  pub behind-local : (place : ℕ) (o : Opening) → Local Stop ruleMoves u false false 0 (behind (length u + place) separator (openingMoves (length u) o)) (behind place separator o)
+  behind-local place o = behind-takes place o (pieces-local o.stage)
 
   -- a rule takes a byte: its opening does, or what is behind none
-  pub rule-local : Local Stop ruleMoves u false false 1 (rule separator) (rule separator)
-  unfolding rule opening
-  rule-local =
-      let f : Opening → Reader Rule = behind separator in
+  opened-local : (place : ℕ) → Local Stop ruleMoves u false false 1 (branch opening (behind (length u + place) separator) nothing) (branch opening (behind place separator) nothing)
+  unfolding opening
+  opened-local place =
+      let f : ℕ → Opening → Reader Rule = λ p. behind p separator in
       let o : Opening = openingOf Beginning noComment in
       let n : Reader Opening = branch wideComment pure (pure o) in
-      or-then-moved n n f f (loose always-local (omega arith)) behind-local (or-then-moved (pure o) (pure o) f f (loose wideComment-local (omega arith)) behind-local (behind-takes o beginning-local))
+      or-then-moved n n (f (length u + place)) (f place) (loose always-local (omega arith)) (behind-local place)
+      (or-then-moved (pure o) (pure o) (f (length u + place)) (f place) (loose wideComment-local (omega arith)) (behind-local place) (behind-takes place o beginning-local))
+
+  pub rule-local : Local Stop ruleMoves u false false 1 (rule separator) (rule separator)
+  unfolding rule
+  rule-local =
+      let f : ℕ → Reader Rule = λ p. branch opening (behind p separator) nothing in
+      loose (branch-moved f f here-local opened-local nothing-local) (omega arith)
 
 -- ---- what parts rules
 

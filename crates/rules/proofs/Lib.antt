@@ -4,4 +4,5 @@ pub mod Apart
 pub mod Chained
 pub mod Turns
 pub mod Small
+pub mod Places
 pub mod Judged

@@ -16,9 +16,8 @@ use Rattle.names.specs.Names as names
 use Rattle.names.proofs.Laws.{one-is}
 use Rattle.names.proofs.Search.{word-letter}
 use Rattle.names.proofs.Skips.{map-map}
-use Rattle.records.specs.declared.Item.{Item}
 use Rattle.items.specs.Musts.{missing, must}
-use Rattle.items.specs.Kinds.{apart, itemIn}
+use Rattle.items.specs.Kinds.{apart, Placed, itemIn}
 use Rattle.items.specs.declared.Kind.{Kind}
 use Rattle.items.proofs.Sure.{Sure, or-sure, sure-then, sure-or, must-sure, missing-apart}
 use Rattle.items.proofs.Standing.{name-is, name-other, name-none}
@@ -50,9 +49,9 @@ with-comment-sure s v l = go (commentApart s l)
 
 -- what a piece is
 abbrev Piece : Type 0
-Piece = (Item × Stage) ⊎ Tail
+Piece = (Placed × Stage) ⊎ Tail
 
-abbrev items : Item × Stage → Reader Piece
+abbrev items : Placed × Stage → Reader Piece
 items a = pure (inl a)
 
 abbrev ends : Tail → Reader Piece
@@ -71,7 +70,7 @@ module _ (s : List ℕ) (i : ℕ) where
   unfolding piece more end
   first-piece = go (itemFrom first s i)
     where
-      go : (r : Read (Item × Stage)) → follow s i r items (map inr (modifier or plainEnd Beginning)) ≡ follow s i r items (branch modifier ends (λ s _. map inr (plainEnd Beginning) s i))
+      go : (r : Read (Placed × Stage)) → follow s i r items (map inr (modifier or plainEnd Beginning)) ≡ follow s i r items (branch modifier ends (λ s _. map inr (plainEnd Beginning) s i))
       go (got a j) = refl
       go none = last (modifier s i)
         where
@@ -87,11 +86,11 @@ module _ (s : List ℕ) (i : ℕ) where
   pub colon-blank : {j : ℕ} → blank s i ≡ got tt j → map inl afterColon s i ≡ map {B = Piece} inl (must (itemFrom small)) s j
   colon-blank {j} e = rw e (go (itemFrom small s j))
     where
-      go : (r : Read (Item × Stage)) → follow s i (follow s i r pure missing) items nothing ≡ follow s j (follow s j r pure missing) items nothing
+      go : (r : Read (Placed × Stage)) → follow s i (follow s i r pure missing) items nothing ≡ follow s j (follow s j r pure missing) items nothing
       go (got a k) = refl
-      go none = rw (missing-apart (Item × Stage) s i e) (again (missing s j))
+      go none = rw (missing-apart (Placed × Stage) s i e) (again (missing s j))
         where
-          again : (r : Read (Item × Stage)) → follow s i r items nothing ≡ follow s j r items nothing
+          again : (r : Read (Placed × Stage)) → follow s i r items nothing ≡ follow s j r items nothing
           again (got a k) = refl
           again none = refl
           again (refused k p) = refl
@@ -116,7 +115,7 @@ module _ (s : List ℕ) (i : ℕ) where
         end′ none = refl
         end′ (refused k p) = refl
 
-        go : (r : Read (Item × Stage)) → follow s i r items (branch (apart modifier) ends (map inr (plainEnd x))) ≡ follow s j r items (branch modifier ends (λ s _. map inr (plainEnd x) s i))
+        go : (r : Read (Placed × Stage)) → follow s i r items (branch (apart modifier) ends (map inr (plainEnd x))) ≡ follow s j r items (branch modifier ends (λ s _. map inr (plainEnd x) s i))
         go (got a k) = refl
         go none = rw e (end′ (modifier s j))
         go (refused k p) = refl
@@ -146,19 +145,19 @@ module _ (s : List ℕ) (i : ℕ) where
     unfolding piece more goesOn
     comma-piece {j} e =
         let m = must (itemFrom (listed k)) in
-        rw e (ap (λ (r : Read (Item × Stage)). follow s i r items (map inr (end (After k)))) (sure-or s i (m s j) (colon k or apart (itemFrom (following k))) (must-sure s j (itemFrom (listed k)))) ∙ sure-then s i j inl (m s j) (map inr (end (After k))) (must-sure s j (itemFrom (listed k))))
+        rw e (ap (λ (r : Read (Placed × Stage)). follow s i r items (map inr (end (After k)))) (sure-or s i (m s j) (colon k or apart (itemFrom (following k))) (must-sure s j (itemFrom (listed k)))) ∙ sure-then s i j inl (m s j) (map inr (end (After k))) (must-sure s j (itemFrom (listed k))))
 
     pub wide-piece : {j : ℕ} → comma s i ≡ none → colonSign k s i ≡ got tt j → piece (After k) s i ≡ map inl afterColon s j
     unfolding piece more goesOn colon
     wide-piece {j} c e =
-        rw (c, e) (ap (λ (r : Read (Item × Stage)). follow s i r items (map inr (end (After k)))) (sure-or s i (afterColon s j) (apart (itemFrom (following k))) (must-sure s j (apart (itemFrom small)))) ∙ sure-then s i j inl (afterColon s j) (map inr (end (After k))) (must-sure s j (apart (itemFrom small))))
+        rw (c, e) (ap (λ (r : Read (Placed × Stage)). follow s i r items (map inr (end (After k)))) (sure-or s i (afterColon s j) (apart (itemFrom (following k))) (must-sure s j (apart (itemFrom small)))) ∙ sure-then s i j inl (afterColon s j) (map inr (end (After k))) (must-sure s j (apart (itemFrom small))))
 
     -- neither a comma nor a colon
     after-end : map inr (end (After k)) s i ≡ branch (apart modifier) ends (map inr (plainEnd (After k))) s i
     unfolding end
     after-end = or-ends (apart modifier s i) (plainEnd (After k))
 
-    after-blank : (r : Read (Item × Stage)) → follow s i r items (map inr (end (After k))) ≡ follow s i r items (branch (apart modifier) ends (map inr (plainEnd (After k))))
+    after-blank : (r : Read (Placed × Stage)) → follow s i r items (map inr (end (After k))) ≡ follow s i r items (branch (apart modifier) ends (map inr (plainEnd (After k))))
     after-blank (got a j) = refl
     after-blank none = after-end
     after-blank (refused n p) = refl
@@ -174,7 +173,7 @@ module _ (s : List ℕ) (j : ℕ) (ks : List Kind) where
   abbrev has : Read Piece
   has = map inl (must (itemFrom ks)) s j
 
-  pub has-item : {a : Item} {k : Kind} {l : ℕ} → itemIn ks s j ≡ got (a, k) l → has ≡ got (inl (a, After k)) l
+  pub has-item : {a : Placed} {k : Kind} {l : ℕ} → itemIn ks s j ≡ got (a, k) l → has ≡ got (inl (a, After k)) l
   has-item e = rw e
 
   pub has-refused : {n p : ℕ} → itemIn ks s j ≡ refused n p → has ≡ refused n p
@@ -188,7 +187,7 @@ module _ (s : List ℕ) (j : ℕ) (ks : List Kind) where
     abbrev may : Read Piece
     may = branch (itemFrom ks) items (branch modifier ends (λ s _. map inr (plainEnd x) s i)) s j
 
-    pub may-item : {a : Item} {k : Kind} {l : ℕ} → itemIn ks s j ≡ got (a, k) l → may ≡ got (inl (a, After k)) l
+    pub may-item : {a : Placed} {k : Kind} {l : ℕ} → itemIn ks s j ≡ got (a, k) l → may ≡ got (inl (a, After k)) l
     may-item e = rw e
 
     pub may-refused : {n p : ℕ} → itemIn ks s j ≡ refused n p → may ≡ refused n p
@@ -223,7 +222,7 @@ module _ (s : List ℕ) (j : ℕ) (ks : List Kind) where
 -- ---- the same of a turn
 
 module _ (s : List ℕ) (x : Stage) (i : ℕ) (c : Cursor) (set : ℕ) where
-  pub turned-item : (m : Bool) {a : Item} {k : Kind} {l : ℕ} → itemIn (kindsOf set) s (c .at) ≡ got (a, k) l → turned s x i (On c set m) ≡ got (inl (a, After k)) l
+  pub turned-item : (m : Bool) {a : Placed} {k : Kind} {l : ℕ} → itemIn (kindsOf set) s (c .at) ≡ got (a, k) l → turned s x i (On c set m) ≡ got (inl (a, After k)) l
   turned-item true e = has-item s (c .at) (kindsOf set) e
   turned-item false e = may-item s (c .at) (kindsOf set) x i e
 

@@ -5,4 +5,5 @@ pub mod Modifiers
 pub mod Rows
 pub mod Pieces
 pub mod Rules
+pub mod Places
 pub mod Seen

@@ -4,9 +4,8 @@ use mathlib.Core.Logic.{_⊎_, inl, inr}
 use Rattle.names.specs.Read.{Reader, branch, nothing, pure, refuse, here, map, only, _>>_, _>>=_, _or_}
 use Rattle.names.specs.Texts.{sign, comma}
 use Rattle.names.specs.Refusals.{emptyRule}
-use Rattle.records.specs.declared.Item.{Item}
 use Rattle.items.specs.Musts.{missing, must}
-use Rattle.items.specs.Kinds.{apart, itemIn}
+use Rattle.items.specs.Kinds.{apart, Placed, itemIn}
 use Rattle.items.specs.declared.Kind.{Kind}
 use Rattle.rules.specs.Separators.{ruleEnd}
 use Rattle.rules.specs.Comments.{noComment}
@@ -17,17 +16,17 @@ use Rattle.rules.specs.declared.Stage.{Stage}
 use Rattle.rules.specs.declared.Stage.the-variants.{Beginning, Always, Colon, After}
 
 -- an item of these kinds, which was read last then
-abbrev pub itemFrom : List Kind → Reader (Item × Stage)
+abbrev pub itemFrom : List Kind → Reader (Placed × Stage)
 itemFrom ks = map (λ a. (a .0, After (a .1))) (itemIn ks)
 
 -- after a comma the list goes on
-unfoldable pub goesOn : Kind → Reader (Item × Stage)
+unfoldable pub goesOn : Kind → Reader (Placed × Stage)
 goesOn k = do
   comma
   must (itemFrom (listed k))
 
 -- a colon needs a blank and a small part after it
-abbrev pub afterColon : Reader (Item × Stage)
+abbrev pub afterColon : Reader (Placed × Stage)
 afterColon = must (apart (itemFrom small))
 
 -- a wide part may end in a colon
@@ -36,13 +35,13 @@ colonSign k = do
   only (isWide k)
   sign ":"
 
-unfoldable pub colon : Kind → Reader (Item × Stage)
+unfoldable pub colon : Kind → Reader (Placed × Stage)
 colon k = do
   colonSign k
   afterColon
 
 -- what may stand after what was read last: an item, and what was read last then
-unfoldable pub more : Stage → Reader (Item × Stage)
+unfoldable pub more : Stage → Reader (Placed × Stage)
 more Beginning = itemFrom first
 more Always = nothing
 more Colon = afterColon
@@ -70,5 +69,5 @@ end Colon = apart modifier or plainEnd Colon
 end (After k) = apart modifier or plainEnd (After k)
 
 -- a piece of a rule: an item, or else the rule's end
-unfoldable pub piece : Stage → Reader ((Item × Stage) ⊎ Tail)
+unfoldable pub piece : Stage → Reader ((Placed × Stage) ⊎ Tail)
 piece x = branch (more x) (λ a. pure (inl a)) (map inr (end x))

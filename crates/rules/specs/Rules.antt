@@ -4,10 +4,10 @@ use mathlib.Core.List.{List}
 use lib.Dec.{eqb}
 use lib.ListN.{length}
 use Rattle.names.specs.Tests.{if_then_else_}
-use Rattle.names.specs.Read.{Reader, branch, pure, map, _>>=_, _>>_, _or_}
+use Rattle.names.specs.Read.{Reader, branch, pure, here, map, _>>=_, _>>_, _or_}
 use Rattle.names.specs.Chain.{chain}
 use Rattle.names.specs.Texts.{bytes, sign, allOf}
-use Rattle.records.specs.declared.Item.{Item}
+use Rattle.items.specs.Kinds.{Placed}
 use Rattle.rules.specs.Comments.{noComment, comment}
 use Rattle.rules.specs.Pieces.{more, end}
 use Rattle.rules.specs.declared.Comment.{Comment}
@@ -50,26 +50,27 @@ unfoldable pub wins : Comment → Comment → Comment
 wins c wide = if eqb c.length 0 then wide else c
 
 -- a rule's head
-abbrev pub headOf : ℕ → Tail → Comment → ℕ → Head
-headOf separator t wide items = record { separator = separator; state = t.state; comment = wins t.comment wide; items = items }
+abbrev pub headOf : ℕ → ℕ → Tail → Comment → ℕ → Head
+headOf place separator t wide items = record { place = place; separator = separator; state = t.state; comment = wins t.comment wide; items = items }
 
 -- a rule's head, and its items
 abbrev pub Rule : Type 0
-Rule = Head × List Item
+Rule = Head × List Placed
 
 -- the items and the end, as a rule
-abbrev pub ruleOf : ℕ → Comment → List Item × Tail → Rule
-ruleOf separator wide r = (headOf separator (r .1) wide (length (r .0)), r .0)
+abbrev pub ruleOf : ℕ → ℕ → Comment → List Placed × Tail → Rule
+ruleOf place separator wide r = (headOf place separator (r .1) wide (length (r .0)), r .0)
 
--- the pieces of a rule behind its opening
-unfoldable pub behind : ℕ → Opening → Reader Rule
-behind separator o = map (ruleOf separator o.comment) (chain more end o.stage)
+-- the pieces of a rule that begins at a place, behind its opening
+unfoldable pub behind : ℕ → ℕ → Opening → Reader Rule
+behind place separator o = map (ruleOf place separator o.comment) (chain more end o.stage)
 
--- a rule
+-- a rule: its place is where it begins
 unfoldable pub rule : ℕ → Reader Rule
 rule separator = do
+  p ← here
   o ← opening
-  behind separator o
+  behind p separator o
 
 -- a rule's head alone
 abbrev pub counted : ℕ → Reader Head

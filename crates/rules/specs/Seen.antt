@@ -5,9 +5,8 @@ use mathlib.Core.List.{List}
 use mathlib.Core.Path.{_≡_}
 use mathlib.Core.Logic.{_⊎_, inl, inr}
 use Rattle.names.specs.Read.{Read, got, none, refused, branch, pure, map}
-use Rattle.records.specs.declared.Item.{Item}
 use Rattle.items.specs.Musts.{missing, must}
-use Rattle.items.specs.Kinds.{apart}
+use Rattle.items.specs.Kinds.{apart, Placed}
 use Rattle.items.specs.Sets.{kindsOf}
 use Rattle.items.specs.declared.Kind.{Kind}
 use Rattle.rules.specs.Modifiers.{modifier}
@@ -38,8 +37,8 @@ seenComment comment.Missing = none
 seenComment (comment.Refused k p) = refused k p
 
 -- a piece: an item and the stage after it, or the rule's end
-abbrev pub seenPiece : Piece → Read ((Item × Stage) ⊎ Tail)
-seenPiece (piece.Item a k c) = got (inl (a, After k)) (c .at)
+abbrev pub seenPiece : Piece → Read ((Placed × Stage) ⊎ Tail)
+seenPiece (piece.Item a p k c) = got (inl ((a, p), After k)) (c .at)
 seenPiece (piece.End t c) = got (inr t) (c .at)
 seenPiece (piece.Refused k p) = refused k p
 
@@ -48,7 +47,7 @@ abbrev pub Lacks : List ℕ → ℕ → Piece → Type 0
 Lacks s i r = (map inl missing s i ≡ seenPiece r) × (map inr missing s i ≡ seenPiece r)
 
 -- where a rule with this stage and place goes on: with an item that has to stand there; or with one that may, or a modifier; or it ends
-abbrev pub turned : List ℕ → Stage → ℕ → Turn → Read ((Item × Stage) ⊎ Tail)
+abbrev pub turned : List ℕ → Stage → ℕ → Turn → Read ((Placed × Stage) ⊎ Tail)
 turned s x i (turn.On c set true) = map inl (must (itemFrom (kindsOf set))) s (c .at)
 turned s x i (turn.On c set false) = branch (itemFrom (kindsOf set)) (λ a. pure (inl a)) (branch modifier (λ t. pure (inr t)) (λ s _. map inr (plainEnd x) s i)) s (c .at)
 turned s x i turn.Over = map inr (plainEnd x) s i

@@ -13,12 +13,13 @@ fn wins(c: Comment, wide: Comment) -> Comment
 }
 
 // A rule's head.
-pub fn head_of(separator: u8, t: Tail, wide: Comment, items: usize) -> Head
-    ensures { λ r. ⌜ r ≡ rules.headOf separator t wide items ⌝ }
+pub fn head_of(place: usize, separator: u8, t: Tail, wide: Comment, items: usize) -> Head
+    ensures { λ r. ⌜ r ≡ rules.headOf place separator t wide items ⌝ }
 {
     let c = t.comment;
     let comment = wins(c, wide);
     Head {
+        place,
         separator,
         state: t.state,
         comment,

@@ -53,9 +53,9 @@ pub enum CommentRead {
     Refused(u8, usize),
 }
 
-// A piece of a rule: an item, its kind and the place after it; the rule's end and the place after it; or a refusal with its number and place.
+// A piece of a rule: an item, its place, its kind and the place after it; the rule's end and the place after it; or a refusal with its number and place.
 pub enum Piece {
-    Item(Item, Kind, Cursor),
+    Item(Item, usize, Kind, Cursor),
     End(Tail, Cursor),
     Refused(u8, usize),
 }
@@ -72,8 +72,9 @@ pub enum OpeningRead {
     Refused(u8, usize),
 }
 
-// A rule's head: its separator, its state, its comment, and how many items it has.
+// A rule's head: its place, its separator, its state, its comment, and how many items it has.
 pub struct Head {
+    pub place: usize,
     pub separator: u8,
     pub state: u8,
     pub comment: Comment,

@@ -166,7 +166,7 @@ impl Spot {
         };
         let found = look_at(s, c, set);
         match found {
-            Stands::Item(a, kind, d) => Piece::Item(a, kind, d),
+            Stands::Item(a, p, kind, d) => Piece::Item(a, p, kind, d),
             Stands::Refused(k, p) => Piece::Refused(k, p),
             Stands::Name(kind, value, d) => {
                 if must {

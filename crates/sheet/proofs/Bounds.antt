@@ -26,7 +26,7 @@ use Rattle.sheet.specs.PartReadings.{partAnswerOf, withNext, partTo, par
 use Rattle.sheet.specs.declared.Answer.{Answer}
 use Rattle.sheet.specs.declared.PartAnswer.{PartAnswer}
 use Rattle.sheet.proofs.Moves.{moreRules-ended, takes}
-use Rattle.sheet.proofs.Takes.{Upto}
+use Rattle.names.proofs.Upto.{Upto}
 use Rattle.sheet.proofs.Turns.{more-takes, records-more, records-none}
 use Rattle.sheet.proofs.PartLaws.{begins-fits, end-fits}
 

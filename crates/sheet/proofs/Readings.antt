@@ -1,20 +1,24 @@
 -- What the counted rules of a text come to: a refusal, too little room, or an answer and the tables with its records.
 use Prim.Native.Nat.{ℕ, _*_, _/_, _≤_, _<_}
 use mathlib.Core.List.{List, [], _∷_}
+use mathlib.Core.List as list
 use mathlib.Core.Bool.{Bool, true, false, not}
 use mathlib.Core.Path.{_≡_, refl, sym, ap, _∙_}
 use native.Mathlib.Omega.{arith}
 use native.Mathlib.Nat.{zero-add, div-mul-le-self}
 use lib.Dec.{ltb}
-use lib.IntN.{ℤ}
-use lib.ListN.{length, take, drop}
+use lib.IntN.{ℤ, pos}
+use lib.ListN.{length, take, drop, length-set}
 use borrow.Author.Tests.{lt-ltb, le-ltb, ltb-false}
 use Rattle.names.specs.Tests.{if_then_else_}
 use Rattle.names.specs.Read.{Read, got, none, refused, follow, nothing, pure}
 use Rattle.records.specs.Tables.{Layout, asWords, asBytes, kept, Tables, keptIn, allKept, recordsIn}
 use Rattle.records.proofs.Keeps.{all-laid}
-use Rattle.records.proofs.Cells.{Sixteen, sixteen-append, items-sixteen, records-back}
+use Rattle.records.proofs.Cells.{Sixteen, sixteen-append, item-sixteen, records-back}
+use Rattle.records.specs.Words.{wordsOf}
+use Rattle.items.specs.Kinds.{Placed}
 use Rattle.rules.specs.Rules.{Rule}
+use Rattle.sheet.specs.Heads.{itemRecord}
 use Rattle.sheet.specs.Texts.{rules, ruleRecords, records}
 use Rattle.sheet.specs.Warnings.{warningsOf}
 use Rattle.sheet.specs.Into.{rulesInto, into}
@@ -31,6 +35,11 @@ use Rattle.sheet.proofs.Fills.{head-sixteen}
 -- ---- a text's records
 
 -- each has 16 words
+items-sixteen : (l : List Placed) → Sixteen (list.map itemRecord l)
+unfolding itemRecord
+items-sixteen [] = tt
+items-sixteen (a ∷ l) = (length-set (wordsOf (a .0)) 15 (pos (a .1)) ∙ item-sixteen (a .0), items-sixteen l)
+
 pub records-sixteen : (l : List Rule) → Sixteen (records l)
 unfolding records
 records-sixteen [] = tt

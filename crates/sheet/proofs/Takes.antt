@@ -11,7 +11,8 @@ use Rattle.names.specs.Tests.{within}
 use Rattle.names.specs.Read.{Read, got, none, refused, Reader, follow, nothing, pure, map, _>>=_}
 use Rattle.names.specs.Chain.{before, last, chainIn, chain}
 use Rattle.names.specs.Names.{Row, names, spelledSo, lower, letter, firstOf, word, name, weekday, holiday, event, week}
-use Rattle.names.proofs.Local.{Stop, keep, Local, past, past-one, loose, free, nothing-local, pure-local, here-then, only-local, branch-local, bind-local, then-local, map-local, or-local}
+use Rattle.names.proofs.Local.{Stop, keep, Local, past, past-one, loose, free, nothing-local, pure-local, here-then, only-local, branch-moved, branch-local, bind-local, then-local, map-local, or-local}
+use Rattle.names.proofs.Upto.{Upto, upto-then, upto-map, upto-less}
 use Rattle.names.proofs.Chains.{step-moves}
 use Rattle.names.proofs.Cut.{byte-local, blank-local, comma-local, hour-local, minute-local}
 use Rattle.names.proofs.NameCut.{plain, allOf-local, name-local}
@@ -27,18 +28,17 @@ use Rattle.days.proofs.Cut.{weekdayBehind-alike, holidayBehind-alike, weekday-r
 use Rattle.dates.specs.Dates.{optionalYear}
 use Rattle.dates.specs.MonthDays.{monthDayBehind, monthDayItem}
 use Rattle.dates.proofs.Cut.{optionalYear-alike, monthDayBehind-alike, yearItem-alike, weekItem-alike, monthDayItem-alike}
-use Rattle.items.specs.Kinds.{weeks, itemOf, itemIn}
+use Rattle.items.specs.Kinds.{Placed, weeks, itemOf, itemIn}
 use Rattle.items.specs.declared.Kind.{Kind}
 use Rattle.items.specs.declared.Kind.the-variants.{Years, MonthDays, Weeks, Weekdays, Holidays, Times}
-use Rattle.items.proofs.Cut.{must-local, apart-alike}
+use Rattle.items.proofs.Cut.{must-local, apart-local, placedMoves, at-local}
 use Rattle.rules.specs.Rows.{small, first, listed, following, isWide}
 use Rattle.rules.specs.Pieces.{goesOn, colonSign, colon, more, end}
-use Rattle.rules.specs.Comments.{noComment}
-use Rattle.rules.specs.Rules.{openingOf, opening, Rule, ruleOf, behind, rule}
+use Rattle.rules.specs.Rules.{opening, Rule, ruleOf, behind, rule}
 use Rattle.rules.specs.declared.Stage.{Stage}
 use Rattle.rules.specs.declared.Stage.the-variants.{Beginning, Always, Colon, After}
 use Rattle.rules.specs.declared.Tail.{Tail}
-use Rattle.rules.proofs.Cut.{openingMoves, itemFrom-alike, afterColon-alike, end-local, always-local, wideComment-local, rule-local}
+use Rattle.rules.proofs.Cut.{itemFrom-local, afterColon-local, end-local, opening-local, rule-local}
 
 -- ---- an item takes two bytes
 
@@ -94,68 +94,39 @@ module _ {u : List ℕ} where
       let f : ℕ → Reader Item = λ p. optionalYear >>= λ y. word >>= λ w. monthDayBehind p y w in
       here-then f f (λ p. bind-local optionalYear-alike (λ y. then-local word-two (monthDayBehind-alike p y)))
 
-  weeks-two : Alike u 2 weeks
+  weeks-two : Local Stop placedMoves u false false 2 weeks weeks
   unfolding weeks
-  weeks-two = bind-local {l = 1} (name-local week) (λ _. must-local (apart-alike weekItem-alike))
+  weeks-two = bind-local {l = 1} (name-local week) (λ _. must-local (apart-local (at-local weekItem-alike)))
 
   -- one of several kinds
-  cons-two : (k : Kind) (ks : List Kind) → Alike u 2 (itemOf k) → Alike u 2 (itemIn ks) → Alike u 2 (itemIn (k ∷ ks))
+  cons-two : (k : Kind) (ks : List Kind) → Local Stop placedMoves u false false 2 (itemOf k) (itemOf k) → Local Stop (step-moves placedMoves) u false false 2 (itemIn ks) (itemIn ks) → Local Stop (step-moves placedMoves) u false false 2 (itemIn (k ∷ ks)) (itemIn (k ∷ ks))
   unfolding itemIn
-  cons-two k ks M N = branch-local {k = 2} {l = 0} M (λ a. pure-local (a, k)) N
+  cons-two k ks M N =
+      let f : Placed → Reader (Placed × Kind) = λ a. pure (a, k) in
+      branch-moved {k = 2} {l = 0} f f M (λ a. pure-local (a, k)) N
 
-  first-two : Alike u 2 (itemIn first)
+  first-two : Local Stop (step-moves placedMoves) u false false 2 (itemIn first) (itemIn first)
   unfolding itemIn itemOf
   first-two =
-      cons-two MonthDays (Years ∷ Weeks ∷ small) month-day-two (cons-two Years (Weeks ∷ small) (loose yearItem-alike (omega arith)) (cons-two Weeks small weeks-two
-      (cons-two Weekdays (Holidays ∷ Times ∷ []) weekday-two (cons-two Holidays (Times ∷ []) holiday-two (cons-two Times [] time-two nothing-local)))))
+      cons-two MonthDays (Years ∷ Weeks ∷ small) (at-local month-day-two) (cons-two Years (Weeks ∷ small) (loose (at-local yearItem-alike) (omega arith)) (cons-two Weeks small weeks-two
+      (cons-two Weekdays (Holidays ∷ Times ∷ []) (at-local weekday-two) (cons-two Holidays (Times ∷ []) (at-local holiday-two) (cons-two Times [] (at-local time-two) nothing-local)))))
 
   -- ---- and so does each piece of a rule, with what stands before it
 
-  more-two : (x : Stage) → Local Stop (step-moves keep) u false false 2 (more x) (more x)
+  more-two : (x : Stage) → Local Stop (step-moves placedMoves) u false false 2 (more x) (more x)
   unfolding more goesOn colon colonSign
   more-two Beginning = map-local (λ a. (a .0, After (a .1))) (λ a. (a .0, After (a .1))) (λ a. refl) first-two
   more-two Always = nothing-local
-  more-two Colon = must-local (bind-local blank-local (λ _. itemFrom-alike small))
+  more-two Colon = must-local (bind-local blank-local (λ _. itemFrom-local small))
   more-two (After k) =
-      or-local (bind-local comma-local (λ _. must-local (itemFrom-alike (listed k))))
-      (or-local (bind-local {k = 1} {l = 1} (loose (bind-local {k = 0} (only-local (isWide k)) (λ _. byte-local 58 refl refl)) (omega arith)) (λ _. afterColon-alike)) (bind-local blank-local (λ _. itemFrom-alike (following k))))
-
--- an opening takes any
-opening-any : Local Stop openingMoves [] false false 0 opening opening
-unfolding opening
-opening-any = or-local (free always-local) (or-local (free wideComment-local) (pure-local (openingOf Beginning noComment)))
-
--- ---- a value and the place after it
-
--- where a reading found a value, it and the place after it are so
-abbrev pub Upto : {A : Type 0} → (A → ℕ → Type 0) → Read A → Type 0
-Upto P (got a j) = P a j
-Upto P none = Unit {0}
-Upto P (refused k p) = Unit {0}
-
--- of one reader after another, the second's are
-pub upto-then : {A B : Type 0} (P : B → ℕ → Type 0) (s : List ℕ) (i : ℕ) (f : A → Reader B) (r : Read A) → ((a : A) (j : ℕ) → r ≡ got a j → Upto P (f a s j)) → Upto P (follow s i r f nothing)
-upto-then P s i f (got a j) h = h a j refl
-upto-then P s i f none h = tt
-upto-then P s i f (refused k p) h = tt
-
--- a value changed
-pub upto-map : {A B : Type 0} (P : B → ℕ → Type 0) (s : List ℕ) (i : ℕ) (f : A → B) (r : Read A) → Upto (λ a j. P (f a) j) r → Upto P (follow s i r (λ a. pure (f a)) nothing)
-upto-map P s i f (got a j) h = h
-upto-map P s i f none h = tt
-upto-map P s i f (refused k p) h = tt
-
--- less is said of them
-pub upto-less : {A : Type 0} (P Q : A → ℕ → Type 0) → ((a : A) (j : ℕ) → P a j → Q a j) → (r : Read A) → Upto P r → Upto Q r
-upto-less P Q f (got a j) h = f a j h
-upto-less P Q f none h = tt
-upto-less P Q f (refused k p) h = tt
+      or-local (bind-local comma-local (λ _. must-local (itemFrom-local (listed k))))
+      (or-local (bind-local {k = 1} {l = 1} (loose (bind-local {k = 0} (only-local (isWide k)) (λ _. byte-local 58 refl refl)) (omega arith)) (λ _. afterColon-local)) (bind-local blank-local (λ _. itemFrom-local (following k))))
 
 -- ---- a rule takes its records' bytes
 
 module _ (s : List ℕ) where
   -- items, two bytes each
-  abbrev Pieces : ℕ → List Item × Tail → ℕ → Type 0
+  abbrev Pieces : ℕ → List Placed × Tail → ℕ → Type 0
   Pieces i r j = i + length (r .0) * 2 ≤ j
 
   pieces-in : (n : ℕ) (x : Stage) (i : ℕ) → Upto (Pieces i) (chainIn n more end x s i)
@@ -163,7 +134,7 @@ module _ (s : List ℕ) where
   pieces-in zero x i = tt
   pieces-in (suc n) x i = go (λ y j. pieces-in n y j) (more x s i) refl
     where
-      go : ((y : Stage) (j : ℕ) → Upto (Pieces j) (chainIn n more end y s j)) → (r : Read (Item × Stage)) → more x s i ≡ r →
+      go : ((y : Stage) (j : ℕ) → Upto (Pieces j) (chainIn n more end y s j)) → (r : Read (Placed × Stage)) → more x s i ≡ r →
           Upto (Pieces i) (follow s i r (λ c. map (before (c .0)) (chainIn n more end (c .1))) (map last (end x)))
       go later (got c j) e =
           let p = past (more-two {u = []} x) e in
@@ -179,10 +150,10 @@ module _ (s : List ℕ) where
   rule-items : (separator i : ℕ) → Upto (Items i) (rule separator s i)
   unfolding rule behind chain
   rule-items separator i =
-      upto-then (Items i) s i (behind separator) (opening s i) (λ o j e.
+      upto-then (Items i) s i (behind i separator) (opening s i) (λ o j e.
       let all = chainIn (suc (length s)) more end (o .stage) s j in
-      upto-map (Items i) s j (ruleOf separator (o .comment)) all
-      (upto-less (Pieces j) (λ r k. Items i (ruleOf separator (o .comment) r) k) (λ r k h. (refl, omega (arith, h, past opening-any e .moves))) all (pieces-in (suc (length s)) (o .stage) j)))
+      upto-map (Items i) s j (ruleOf i separator (o .comment)) all
+      (upto-less (Pieces j) (λ r k. Items i (ruleOf i separator (o .comment) r) k) (λ r k h. (refl, omega (arith, h, past opening-local e .moves))) all (pieces-in (suc (length s)) (o .stage) j)))
 
   -- these and the head take a byte each at least
   pub rule-takes : (separator i : ℕ) → Upto (λ r j. (r .0 .items ≡ length (r .1)) × (i + suc (length (r .1)) ≤ j)) (rule separator s i)

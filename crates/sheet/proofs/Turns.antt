@@ -11,7 +11,7 @@ use Rattle.names.specs.Texts.{blanks}
 use Rattle.names.proofs.Local.{Ends, past}
 use Rattle.names.proofs.Skips.{map-map}
 use Rattle.names.proofs.Cut.{blanks-local}
-use Rattle.records.specs.Words.{wordsOf}
+use Rattle.sheet.specs.Heads.{itemRecord}
 use Rattle.records.specs.Tables.{Tables, allKept}
 use Rattle.records.proofs.Keeps.{all-append}
 use Rattle.items.specs.Musts.{must}
@@ -27,7 +27,8 @@ use Rattle.sheet.specs.Texts.{afterRule, parted, moreRules, noMore, rule
 use Rattle.sheet.specs.Into.{ruleInto, rulesInto}
 use Rattle.sheet.specs.Seen.{seenRuleInto}
 use Rattle.sheet.proofs.Moves.{takes, must-next, rules-are}
-use Rattle.sheet.proofs.Takes.{Upto, upto-then, rule-takes}
+use Rattle.names.proofs.Upto.{Upto, upto-then}
+use Rattle.sheet.proofs.Takes.{rule-takes}
 use Rattle.sheet.proofs.Fills.{map-same}
 
 -- ---- records
@@ -35,7 +36,7 @@ use Rattle.sheet.proofs.Fills.{map-same}
 -- a rule's records, and those behind them
 pub records-more : (r : Rule) (l : List Rule) → length (records (r ∷ l)) ≡ suc (length (r .1)) + length (records l)
 unfolding records
-records-more r l = length-append (ruleRecords r) (records l) ∙ ap (λ n. suc n + length (records l)) (length-map (r .1) wordsOf)
+records-more r l = length-append (ruleRecords r) (records l) ∙ ap (λ n. suc n + length (records l)) (length-map (r .1) itemRecord)
 
 -- no rule has no records
 pub records-none : length (records []) ≡ 0
@@ -166,7 +167,7 @@ module _ (t t′ : Tables) (slot separator : ℕ) (s : List ℕ) (i : ℕ) where
   behind-rule : {items k : ℕ} {n : Next} (x : Turned t t′ slot separator s i items n k) (l : List Rule × Unit {0}) → counted t slot (before (x .rule) l) ≡ counted t′ (slot + (items + 1)) l
   unfolding records
   behind-rule {items} x l =
-      let e : slot + length (ruleRecords (x .rule)) ≡ slot + (items + 1) = omega (arith, length-map (x .rule .1) wordsOf, x .size) in
+      let e : slot + length (ruleRecords (x .rule)) ≡ slot + (items + 1) = omega (arith, length-map (x .rule .1) itemRecord, x .size) in
       let m : slot + length (records (x .rule ∷ l .0)) ≡ slot + (items + 1) + length (records (l .0)) = omega (arith, records-more (x .rule) (l .0), x .size) in
       rw (m, all-append (ruleRecords (x .rule)) (records (l .0)) t slot, e, ← x .all)
 

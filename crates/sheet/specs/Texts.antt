@@ -5,13 +5,12 @@ use lib.IntN.{ℤ}
 use Rattle.names.specs.Read.{Reader, nothing, pure, _>>=_, _>>_}
 use Rattle.names.specs.Chain.{chain}
 use Rattle.names.specs.Texts.{blanks}
-use Rattle.records.specs.Words.{wordsOf}
 use Rattle.items.specs.Musts.{must}
 use Rattle.rules.specs.Separators.{next}
 use Rattle.rules.specs.Rules.{Rule, rule}
 use Rattle.rules.specs.declared.Next.{Next}
 use Rattle.rules.specs.declared.Next.the-variants.{Another, Finished}
-use Rattle.sheet.specs.Heads.{headWords}
+use Rattle.sheet.specs.Heads.{headWords, itemRecord}
 
 -- the blanks after a rule, and what parts it from the next
 abbrev pub afterRule : {A : Type 0} → A → Reader (A × Next)
@@ -44,7 +43,7 @@ rules = chain moreRules noMore (Another 0)
 
 -- a rule's records: its head comes first, then its items in reading order
 abbrev pub ruleRecords : Rule → List (List ℤ)
-ruleRecords r = headWords (r .0) ∷ map wordsOf (r .1)
+ruleRecords r = headWords (r .0) ∷ map itemRecord (r .1)
 
 -- the records of rules
 unfoldable pub records : List Rule → List (List ℤ)

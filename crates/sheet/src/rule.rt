@@ -5,9 +5,9 @@ ghost use lib.ListN.{length};
 ghost use Rattle.sheet.specs.Into.{ruleInto};
 ghost use Rattle.sheet.specs.Seen.{seenRuleInto};
 use crate::heads::head_words;
+use crate::heads::item_words;
 use names::Cursor;
 use records::keep;
-use records::words_of;
 use rules::OpeningRead;
 use rules::Piece;
 use rules::RuleRead;
@@ -42,16 +42,16 @@ pub fn fill_rule(
             loop {
                 let piece = spot.piece(s);
                 match piece {
-                    Piece::Item(a, kind, d) => {
+                    Piece::Item(a, p, kind, d) => {
                         n += 1;
                         spot = Spot {
                             at: d.at,
                             stage: Stage::After(kind),
                         };
-                        keep(words, bytes, slot + n, words_of(a));
+                        keep(words, bytes, slot + n, item_words(a, p));
                     }
                     Piece::End(t, d) => {
-                        let h = head_of(separator, t, wide, n);
+                        let h = head_of(c.at, separator, t, wide, n);
                         keep(words, bytes, slot, head_words(h));
                         return RuleRead::Got(h, d);
                     }

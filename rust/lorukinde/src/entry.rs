@@ -1,9 +1,17 @@
 //! What a record's words mean, as types. Decoding never fails: words that no reading writes are given back as they are.
 use crate::record::Record;
 
-/// What a record says.
+/// What a record says, and where it says it.
 #[derive(Clone, Copy, Debug, PartialEq, Eq)]
-pub enum Entry {
+pub struct Entry {
+    /// The item's first byte in the sheet: its year's if it has one, a week's number's; for a head, where its rule begins.
+    /// For words that no reading writes it is 0.
+    pub place: usize,
+    pub meaning: Meaning,
+}
+
+#[derive(Clone, Copy, Debug, PartialEq, Eq)]
+pub enum Meaning {
     /// The head of a rule; its items follow.
     Head(Head),
     Years(Steps),
@@ -219,30 +227,36 @@ impl Month {
 impl Record {
     pub fn entry(&self) -> Entry {
         let words = self.words();
-        typed(&words).unwrap_or(Entry::Raw(words))
+        typed(&words).unwrap_or(Entry { place: 0, meaning: Meaning::Raw(words) })
     }
 }
 
 /// The entry of words that a reading can write, as far as their types tell; None for others.
 fn typed(w: &[i32; 16]) -> Option<Entry> {
+    Some(Entry { place: usize::try_from(w[15]).ok()?, meaning: meaning(w)? })
+}
+
+fn meaning(w: &[i32; 16]) -> Option<Meaning> {
     Some(match w[0] {
-        1 => Entry::Head(head(w)?),
-        2 => Entry::Years(steps(w)),
-        3 => Entry::Months(Months { year: year(w[1]), first: Month::from_number(w[2])?, last: Month::from_number(w[3])? }),
-        4 => Entry::Dates(Dates {
+        1 => Meaning::Head(head(w)?),
+        2 => Meaning::Years(steps(w)),
+        3 => Meaning::Months(Months { year: year(w[1]), first: Month::from_number(w[2])?, last: Month::from_number(w[3])? }),
+        4 => Meaning::Dates(Dates {
             start: date([w[1], w[2], w[3], w[4], w[5], w[6], w[7]])?,
             end: date([w[8], w[9], w[10], w[11], w[12], w[13], w[14]])?,
         }),
-        5 => Entry::Weeks(steps(w)),
-        6 => Entry::Weekdays(Weekdays {
+        5 => Meaning::Weeks(steps(w)),
+        6 => Meaning::Weekdays(Weekdays {
             first: Weekday::from_number(w[1])?,
             last: Weekday::from_number(w[2])?,
             day_offset: w[3],
             from_start: marks(w[4])?,
             from_end: marks(w[5])?,
         }),
-        7 => Entry::Holiday(Holiday { kind: numbered(&[HolidayKind::Public, HolidayKind::School], w[1])?, day_offset: w[2] }),
-        8 => Entry::Span(Span { start: time(w[1], w[2])?, end: time(w[3], w[4])?, repeat: repeat(w[5])?, open_end: flag(w[6])? }),
+        7 => Meaning::Holiday(Holiday { kind: numbered(&[HolidayKind::Public, HolidayKind::School], w[1])?, day_offset: w[2] }),
+        8 => {
+            Meaning::Span(Span { start: time(w[1], w[2])?, end: time(w[3], w[4])?, repeat: repeat(w[5])?, open_end: flag(w[6])? })
+        }
         _ => return None,
     })
 }

@@ -28,8 +28,8 @@ mod words;
 use std::borrow::Cow;
 
 pub use entry::{
-    Date, Dates, Day, Entry, Event, Head, Holiday, HolidayKind, Month, Months, Separator, Span, State, Steps, Time, ToWeekday,
-    Weekday, Weekdays,
+    Date, Dates, Day, Entry, Event, Head, Holiday, HolidayKind, Meaning, Month, Months, Separator, Span, State, Steps, Time,
+    ToWeekday, Weekday, Weekdays,
 };
 pub use parts::{parts, Part, Parts};
 pub use reading::{Reading, Rule, Rules};

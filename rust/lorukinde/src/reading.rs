@@ -1,7 +1,7 @@
 //! An accepted sheet or part: its records, and its rules.
 use std::borrow::Cow;
 
-use crate::entry::{Entry, Head};
+use crate::entry::{Entry, Head, Meaning};
 use crate::note;
 use crate::record::Record;
 
@@ -35,9 +35,10 @@ impl Reading<'_> {
     }
 }
 
-/// A rule: its head, and its items. Its `Display` says it in plain words.
+/// A rule: where it begins in the sheet, its head, and its items. Its `Display` says it in plain words.
 #[derive(Clone, Copy, Debug, PartialEq, Eq)]
 pub struct Rule<'a> {
+    pub place: usize,
     pub head: Head,
     sheet: &'a [u8],
     items: &'a [Record],
@@ -80,14 +81,14 @@ impl<'a> Iterator for Rules<'a> {
 
     fn next(&mut self) -> Option<Rule<'a>> {
         let (first, rest) = self.records.split_first()?;
-        // In a reading a head always stands here, and its items behind it.
-        let head = match first.entry() {
-            Entry::Head(head) => head,
+        // In a reading a head always stands here, and its items after it.
+        let (place, head) = match first.entry() {
+            Entry { place, meaning: Meaning::Head(head) } => (place, head),
             _ => return None,
         };
         let count = usize::try_from(head.items).unwrap_or(0).min(rest.len());
         let (items, behind) = rest.split_at(count);
         self.records = behind;
-        Some(Rule { head, sheet: self.sheet, items })
+        Some(Rule { place, head, sheet: self.sheet, items })
     }
 }

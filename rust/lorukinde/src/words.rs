@@ -2,8 +2,8 @@
 use std::fmt;
 
 use crate::entry::{
-    Date, Dates, Day, Entry, Event, Holiday, HolidayKind, Month, Months, Separator, Span, State, Steps, Time, ToWeekday, Weekday,
-    Weekdays,
+    Date, Dates, Day, Entry, Event, Holiday, HolidayKind, Meaning, Month, Months, Separator, Span, State, Steps, Time, ToWeekday,
+    Weekday, Weekdays,
 };
 use crate::reading::Rule;
 
@@ -206,30 +206,36 @@ impl fmt::Display for Span {
 
 impl fmt::Display for Entry {
     fn fmt(&self, f: &mut fmt::Formatter<'_>) -> fmt::Result {
+        write!(f, "{}", self.meaning)
+    }
+}
+
+impl fmt::Display for Meaning {
+    fn fmt(&self, f: &mut fmt::Formatter<'_>) -> fmt::Result {
         match self {
-            Entry::Head(head) => write!(f, "{}", head.state),
-            Entry::Years(some) => years(f, some),
-            Entry::Months(some) => write!(f, "{some}"),
-            Entry::Dates(some) => write!(f, "{some}"),
-            Entry::Weeks(some) => weeks(f, some),
-            Entry::Weekdays(some) => write!(f, "{some}"),
-            Entry::Holiday(some) => write!(f, "{some}"),
-            Entry::Span(some) => write!(f, "{some}"),
-            Entry::Raw(words) => write!(f, "the words {words:?}"),
+            Meaning::Head(head) => write!(f, "{}", head.state),
+            Meaning::Years(some) => years(f, some),
+            Meaning::Months(some) => write!(f, "{some}"),
+            Meaning::Dates(some) => write!(f, "{some}"),
+            Meaning::Weeks(some) => weeks(f, some),
+            Meaning::Weekdays(some) => write!(f, "{some}"),
+            Meaning::Holiday(some) => write!(f, "{some}"),
+            Meaning::Span(some) => write!(f, "{some}"),
+            Meaning::Raw(words) => write!(f, "the words {words:?}"),
         }
     }
 }
 
 /// Items of one kind add to each other, and a day has to fit each kind that stands there.
-fn kind(entry: &Entry) -> u8 {
-    match entry {
-        Entry::Head(_) => 0,
-        Entry::Years(_) => 1,
-        Entry::Months(_) | Entry::Dates(_) => 2,
-        Entry::Weeks(_) => 3,
-        Entry::Weekdays(_) | Entry::Holiday(_) => 4,
-        Entry::Span(_) => 5,
-        Entry::Raw(_) => 6,
+fn kind(meaning: &Meaning) -> u8 {
+    match meaning {
+        Meaning::Head(_) => 0,
+        Meaning::Years(_) => 1,
+        Meaning::Months(_) | Meaning::Dates(_) => 2,
+        Meaning::Weeks(_) => 3,
+        Meaning::Weekdays(_) | Meaning::Holiday(_) => 4,
+        Meaning::Span(_) => 5,
+        Meaning::Raw(_) => 6,
     }
 }
 
@@ -246,11 +252,11 @@ impl fmt::Display for Rule<'_> {
         for item in self.items() {
             match before {
                 None => {}
-                Some(same) if same == kind(&item) => write!(f, " and ")?,
+                Some(same) if same == kind(&item.meaning) => write!(f, " and ")?,
                 Some(_) => write!(f, ", ")?,
             }
             write!(f, "{item}")?;
-            before = Some(kind(&item));
+            before = Some(kind(&item.meaning));
         }
         if before.is_none() {
             write!(f, "always")?;

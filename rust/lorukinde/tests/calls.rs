@@ -1,7 +1,7 @@
 //! The calls at their edges: lengths, places, tables, notes; and what a refusal says.
 mod common;
-use common::{mark, marked, words};
-use lorukinde::{note, parts, read_part, read_sheet, Entry, Head, Record, Refusal, Separator, State};
+use common::{at, mark, marked, words};
+use lorukinde::{note, parts, read_part, read_sheet, Head, Meaning, Record, Refusal, Separator, State};
 
 fn refusal(number: u32, place: usize) -> Refusal {
     Refusal { number, place }
@@ -63,8 +63,8 @@ fn few_and_many_records() {
     // Up to 7 records are kept while they are counted; a sheet with more is read again.
     for items in [1, 5, 6, 7, 8, 340, 341, 342, 343, 1198, 1199, 1200, 1201, 1365] {
         let sheet = vec!["Mo"; items].join(",").into_bytes();
-        let mut expected = vec![Record::from_words(words([6, 1, 1, 0, 31, 31])); items + 1];
-        expected[0] = Record::from_words(words([1, 0, 0, 0, 0, items as i32]));
+        let mut expected = vec![Record::from_words(words([1, 0, 0, 0, 0, items as i32]))];
+        expected.extend((0..items).map(|i| Record::from_words(at(3 * i, words([6, 1, 1, 0, 31, 31])))));
         let mut table = marked(items + 2);
         assert_eq!(read_sheet(&sheet, &mut table).map(|r| r.records().to_vec()), Ok(expected), "{items}");
         assert_eq!(table[items + 1], mark(), "{items}");
@@ -157,8 +157,24 @@ fn rules_and_items() {
         [(Separator::Normal, State::Closed, 4), (Separator::Additional, State::Open, 0), (Separator::Fallback, State::Closed, 0)]
     );
     assert_eq!(rules.iter().map(|rule| 1 + rule.records().len()).sum::<usize>(), reading.records().len());
-    assert_eq!(reading.entries().filter(|entry| matches!(entry, Entry::Head(_))).count(), 3);
-    assert_eq!(reading.entries().filter(|entry| matches!(entry, Entry::Raw(_))).count(), 0);
+    assert_eq!(reading.entries().filter(|entry| matches!(entry.meaning, Meaning::Head(_))).count(), 3);
+    assert_eq!(reading.entries().filter(|entry| matches!(entry.meaning, Meaning::Raw(_))).count(), 0);
+}
+
+#[test]
+fn items_know_their_places() {
+    let sheet = b" 2020 Jan,Feb 3 week  7 Mo,PH (sunset-1:00)+ ;  24/7 || 2021 2022 Mar";
+    let mut table = marked(16);
+    let reading = read_sheet(sheet, &mut table).unwrap();
+    assert_eq!(reading.entries().map(|entry| entry.place).collect::<Vec<_>>(), [1, 1, 10, 22, 24, 27, 30, 48, 56, 56, 61]);
+    let rules: Vec<_> =
+        reading.rules().map(|rule| (rule.place, rule.items().map(|item| item.place).collect::<Vec<_>>())).collect();
+    assert_eq!(rules, [(1, vec![1, 10, 22, 24, 27, 30]), (48, vec![]), (56, vec![56, 61])]);
+
+    // In a part they count from the sheet's first byte.
+    let mut table = marked(16);
+    let part = read_part(sheet, 46, &mut table);
+    assert_eq!(part.reading.unwrap().entries().map(|entry| entry.place).collect::<Vec<_>>(), [48, 56, 56, 61]);
 }
 
 #[test]
@@ -193,13 +209,14 @@ fn any_words_can_be_decoded() {
                 all.iter_mut().skip(2).step_by(2).for_each(|word| *word = *b);
                 let entry = Record::from_words(all).entry();
                 assert!(!entry.to_string().is_empty());
-                assert!(matches!(entry, Entry::Raw(same) if same == all) || (1..=8).contains(&kind));
+                assert!(matches!(entry.meaning, Meaning::Raw(same) if same == all) || (1..=8).contains(&kind));
+                assert!(all[15] >= 0 || entry.meaning == Meaning::Raw(all));
             }
         }
     }
     let late = words([8, 0, i32::MAX, 0, i32::MAX, -1, 0]);
-    assert_eq!(Record::from_words(late).entry(), Entry::Raw(late));
-    assert_eq!(Record::default().entry(), Entry::Raw([0; 16]));
+    assert_eq!(Record::from_words(late).entry().meaning, Meaning::Raw(late));
+    assert_eq!(Record::default().entry().meaning, Meaning::Raw([0; 16]));
     assert_eq!(std::mem::size_of::<Record>(), 64);
 }
 

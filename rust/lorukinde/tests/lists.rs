@@ -1,7 +1,7 @@
 //! Long lists of sheets with fixed answers, and what parts and sheets owe each other on random ones.
 mod common;
 use common::{lines_of, part_lines, place_line, sheet_lines};
-use lorukinde::{note, parts, read_part, read_sheet, Entry, Head, Record, Refusal, Separator, State};
+use lorukinde::{note, parts, read_part, read_sheet, Head, Meaning, Record, Refusal, Separator, State};
 
 /// The cases of crates/cases with the answers of the repository's second reader. A case: four digits for the words of the table,
 /// a letter, a blank or digit, a sheet. S is the sheet, P its parts and their places, A both, L both without the places,
@@ -48,7 +48,13 @@ fn note_lines(sheet: &[u8]) -> Vec<Vec<u8>> {
     numbers.iter().map(|start| numbers.iter().flat_map(|length| one(*start, *length)).collect()).collect()
 }
 
-type SaidRule = (Separator, State, Option<Vec<u8>>, Vec<Record>);
+type SaidRule = (usize, Separator, State, Option<Vec<u8>>, Vec<[i32; 16]>);
+
+/// An item's words, its place counted from `begin`.
+fn from_begin(record: &Record, begin: usize) -> [i32; 16] {
+    let words = record.words();
+    common::at(record.entry().place - begin, words)
+}
 
 /// All that a part's reading says, with places counted from the part's beginning and comments instead of their places.
 #[derive(PartialEq, Debug)]
@@ -71,7 +77,10 @@ fn all_said(sheet: &[u8], room: usize) -> Vec<Said> {
             refusal: reading.err().map(|r| (r.number, r.place - at)),
             rules: reading.map_or(Vec::new(), |r| {
                 r.rules()
-                    .map(|x| (x.head.separator, x.head.state, x.comment().map(<[u8]>::to_vec), x.records().to_vec()))
+                    .map(|x| {
+                        let items = x.records().iter().map(|record| from_begin(record, at)).collect();
+                        (x.place - at, x.head.separator, x.head.state, x.comment().map(<[u8]>::to_vec), items)
+                    })
                     .collect()
             }),
             warnings: reading.map_or(0, |r| r.warnings()),
@@ -109,8 +118,18 @@ fn moved_to_the_next_month(ours: &[u8], rusts: &[u8]) -> bool {
     last < day && ours == rusts
 }
 
+/// A record's line with 0 for its item's place; an answer's line as it is.
+fn without_place(line: &[u8]) -> Vec<u8> {
+    let words: Vec<&[u8]> = line.split(|byte| *byte == b' ').collect();
+    match words.len() {
+        16 => [&words[..15], &[&b"0"[..]]].concat().join(&b' '),
+        _ => line.to_vec(),
+    }
+}
+
 /// The oracle's fixed list, where it is there: sheets, one a line, and for each the four numbers of its answer and its records
-/// (a table of 512), as the program writes them. The first line of both files says how they were made.
+/// (a table of 512), as the program writes them, but for the places of items, which the oracle does not know. The first line of
+/// both files says how they were made.
 #[test]
 fn the_oracles_list() {
     let (sheets, expected) = match (lines_of("tools/oracle/sample.txt"), lines_of("tools/oracle/sample.out")) {
@@ -120,7 +139,7 @@ fn the_oracles_list() {
     let mut expected = expected.into_iter().skip(1);
     let mut moved = 0;
     for sheet in &sheets[1..] {
-        for line in sheet_lines(sheet, 512) {
+        for line in sheet_lines(sheet, 512).iter().map(|line| without_place(line)) {
             let rusts = expected.next().unwrap();
             if line != rusts {
                 assert!(moved_to_the_next_month(&line, &rusts), "{}", String::from_utf8_lossy(sheet));
@@ -195,7 +214,7 @@ fn parts_make_the_sheet() {
         assert_eq!(whole.clone().map(|r| (r.records().to_vec(), r.warnings())), together, "{sheet:?}");
         if let Ok(whole) = whole {
             accepted += 1;
-            assert!(whole.entries().all(|entry| !matches!(entry, Entry::Raw(_))), "{sheet:?}");
+            assert!(whole.entries().all(|entry| !matches!(entry.meaning, Meaning::Raw(_))), "{sheet:?}");
             assert!(whole.rules().all(|rule| !rule.to_string().is_empty()));
         }
     }

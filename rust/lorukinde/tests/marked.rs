@@ -1,6 +1,6 @@
 //! The sheets marked P in the rules, with all their words, and the other sheets to try beside them.
 mod common;
-use common::{sheet_lines, words};
+use common::{at, sheet_lines, words};
 use lorukinde::{parts, read_sheet, Record};
 
 /// The head of a first rule that is open, without a comment, with so many items.
@@ -61,10 +61,10 @@ fn years_and_weeks() {
 
 #[test]
 fn rules() {
-    let (monday, tuesday) = (words([6, 1, 1, 0, 31, 31]), words([6, 2, 2, 0, 31, 31]));
+    let (monday, tuesday) = (words([6, 1, 1, 0, 31, 31]), |place| at(place, words([6, 2, 2, 0, 31, 31])));
     refused("", 11, 0);
-    accepted("Mo,Tu", &[head(2), monday, tuesday]);
-    accepted("Mo, Tu", &[head(1), monday, words([1, 1, 0, 0, 0, 1]), tuesday]);
+    accepted("Mo,Tu", &[head(2), monday, tuesday(3)]);
+    accepted("Mo, Tu", &[head(1), monday, at(4, words([1, 1, 0, 0, 0, 1])), tuesday(4)]);
 }
 
 #[test]
@@ -77,7 +77,7 @@ fn parts_around_an_empty_one() {
     assert_eq!(words_of(0), [head(1), words([6, 1, 1, 0, 31, 31])]);
     let refusal = got[1].reading.as_ref().unwrap_err();
     assert_eq!((refusal.number, refusal.place), (11, 3));
-    assert_eq!(words_of(2), [head(1), words([6, 2, 2, 0, 31, 31])]);
+    assert_eq!(words_of(2), [at(5, head(1)), at(5, words([6, 2, 2, 0, 31, 31]))]);
 }
 
 /// The program's output that the rules show, whole.

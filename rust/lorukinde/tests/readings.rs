@@ -1,4 +1,4 @@
-//! The cases of document 04: which number a refusal has, and where it stands.
+//! The cases of document 04: which number a refusal has, where it stands, and which words an item has.
 mod common;
 use common::{bytes_of, lines_of, one_part, sheet_lines};
 
@@ -11,11 +11,17 @@ fn the_documents_cases() {
         let fields: Vec<&str> = line.split('\t').collect();
         let (sheet, expected) = (bytes_of(fields[2]), fields[3].replace("more", "0").replace("last", "1"));
         let got = match fields[1].split(' ').collect::<Vec<_>>()[..] {
-            [_] => sheet_lines(&sheet, 512),
-            [_, "part", begin] => one_part(&sheet, begin.parse().unwrap(), 512).0,
+            [_] => sheet_lines(&sheet, 512).swap_remove(0),
+            [_, "words"] => items(sheet_lines(&sheet, 512)),
+            [_, "part", begin] => one_part(&sheet, begin.parse().unwrap(), 512).0.swap_remove(0),
             _ => panic!("no such call: {line}"),
         };
-        assert_eq!(String::from_utf8_lossy(&got[0]), expected, "{line}");
+        assert_eq!(String::from_utf8_lossy(&got), expected, "{line}");
     }
     assert!(cases.len() > 60);
+}
+
+/// The records of an answer that are no heads, parted by ` / `.
+fn items(lines: Vec<Vec<u8>>) -> Vec<u8> {
+    lines[1..].iter().filter(|record| !record.starts_with(b"1 ")).cloned().collect::<Vec<_>>().join(&b" / "[..])
 }

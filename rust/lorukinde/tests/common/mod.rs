@@ -18,6 +18,12 @@ pub fn words<const N: usize>(first: [i32; N]) -> [i32; 16] {
     all
 }
 
+/// A record's words, with the place of its item.
+pub fn at(place: usize, mut words: [i32; 16]) -> [i32; 16] {
+    words[15] = place as i32;
+    words
+}
+
 fn numbers(some: impl IntoIterator<Item = i64>) -> Vec<u8> {
     let some: Vec<String> = some.into_iter().map(|n| n.to_string()).collect();
     some.join(" ").into_bytes()

@@ -6,10 +6,10 @@ use Rattle.cases.proofs.exchanges.is_same_records.Statement.{statement}
 use Rattle.cases.proofs.exchanges.is_same_records.Tie as tie
 
 abbrev Inv-loop : tie.InvT-loop
-Inv-loop one t other u n k₀ at₀ k at = (at ≤ length t) × (at ≤ length u)
+Inv-loop one p t other q u n k₀ at₀ k at = (at ≤ length t) × (at ≤ length u)
 
 abbrev μ-loop : tie.MeasureT-loop
-μ-loop one t other u n k₀ at₀ k at = n - k
+μ-loop one p t other q u n k₀ at₀ k at = n - k
 
 pub is-same-records-spec : {M : Type 1} → statement M
 is-same-records-spec =

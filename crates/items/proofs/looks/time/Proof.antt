@@ -4,6 +4,7 @@ use mathlib.Core.Path.{sym, _∙_}
 use Rattle.items.specs.Kinds.{itemOf}
 use Rattle.items.specs.Sets.{bitOf}
 use Rattle.items.specs.declared.Kind.the-variants.{Times}
+use Rattle.items.proofs.Standing.{item-at}
 use Rattle.items.proofs.Finding.{finds-one, pick-not}
 use Rattle.items.proofs.looks.time.Statement.{statement}
 use Rattle.items.proofs.looks.time.Tie as tie
@@ -17,5 +18,5 @@ time-spec =
     (λ c κs. search needs)  -- time-item-requires
     (λ c κs. search needs)  -- found-requires
     (λ c. let d = c .before in let h = d .before in
-    finds-one _ _ _ Times (c .found .result) (sym (h .before .has .ensures) ∙ h .if1 .taken) (d .time-item .ensures) (c .found .ensures))  -- returns
+    finds-one _ _ _ Times (c .found .result) (sym (h .before .has .ensures) ∙ h .if1 .taken) (item-at _ _ (d .time-item .ensures)) (c .found .ensures))  -- returns
     (λ c. pick-not _ _ _ Times (sym (c .before .has .ensures) ∙ c .if1 .left)))  -- returns-2

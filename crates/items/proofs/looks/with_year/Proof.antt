@@ -5,7 +5,7 @@ use mathlib.Core.Path.{sym, _∙_}
 use Rattle.items.specs.Kinds.{itemOf}
 use Rattle.items.specs.Sets.{bitOf}
 use Rattle.items.specs.declared.Kind.the-variants.{MonthDays, Years}
-use Rattle.items.proofs.Standing.{year-item}
+use Rattle.items.proofs.Standing.{item-at, year-item}
 use Rattle.items.proofs.Finding.{finds, finds-one, pick-not, finds-before, pick-after}
 use Rattle.items.proofs.looks.with_year.Statement.{statement}
 use Rattle.items.proofs.looks.with_year.Tie as tie
@@ -23,6 +23,6 @@ with-year-spec =
     (λ c κs. search needs)  -- found-requires
     (λ c. let w = c .before in let h = w .before in let e = h .before .before in let d = e .before .before in
     finds (c .found .result) (pick-after _ _ _ MonthDays (Years ∷ []) (d .month-day .result) (d .month-day .ensures) (e .enum-told .given .1))
-    (finds-one _ _ _ Years (c .found .result) (sym (h .before .has .ensures) ∙ h .if1 .taken) (year-item _ _ (d .before .before .pre) ∙ w .year-item-behind .ensures) (c .found .ensures)))  -- returns-2
+    (finds-one _ _ _ Years (c .found .result) (sym (h .before .has .ensures) ∙ h .if1 .taken) (item-at _ _ (year-item _ _ (d .before .before .pre) ∙ w .year-item-behind .ensures)) (c .found .ensures)))  -- returns-2
     (λ c. let e = c .before .before in let d = e .before .before in
     pick-after _ _ _ MonthDays (Years ∷ []) (d .month-day .result) (d .month-day .ensures) (e .enum-told .given .1) ∙ pick-not _ _ _ Years (sym (c .before .has .ensures) ∙ c .if1 .left)))  -- returns-3

@@ -1,6 +1,6 @@
 -- `rules::pieces::lacking` meets its contract.
 use borrow.Author.Needs.{needs}
-use Rattle.records.specs.declared.Item.{Item}
+use Rattle.items.specs.Kinds.{Placed}
 use Rattle.items.proofs.Quotes.{lack-is}
 use Rattle.rules.specs.declared.Stage.{Stage}
 use Rattle.rules.specs.declared.Tail.{Tail}
@@ -12,4 +12,4 @@ lacking-spec =
     tie.close
     (tie.spec
     (λ c κs. search needs)  -- missing-requires
-    (λ c. let r = c .missing .result in let h = c .missing .ensures in (rw (lack-is (Item × Stage) _ _ r h), rw (lack-is Tail _ _ r h))))  -- returns
+    (λ c. let r = c .missing .result in let h = c .missing .ensures in (rw (lack-is (Placed × Stage) _ _ r h), rw (lack-is Tail _ _ r h))))  -- returns

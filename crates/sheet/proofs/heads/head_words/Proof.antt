@@ -16,5 +16,6 @@ head-words-spec =
     (λ c. search needs)  -- cast-t5
     (λ c. search needs)  -- cast-t6
     (λ c. search needs)  -- cast-t7
-    (λ c. let h = c .before .before .before .before .before .before .args .h in
-    rw (word (h .separator) (omega arith), word (h .state) (omega arith), word (h .comment .start) (omega arith), word (h .comment .length) (omega arith), word (h .items) (omega arith))))  -- returns
+    (λ c. search needs)  -- cast-t8
+    (λ c. let h = c .before .before .before .before .before .before .before .args .h in
+    rw (word (h .separator) (omega arith), word (h .state) (omega arith), word (h .comment .start) (omega arith), word (h .comment .length) (omega arith), word (h .items) (omega arith), word (h .place) (omega arith))))  -- returns

@@ -1,0 +1,72 @@
+-- The place of an item that is read at a place is not before it, and is one of the item's own bytes.
+use Prim.Native.Nat.{ℕ, suc, _≤_, _<_}
+use mathlib.Core.List.{List, [], _∷_}
+use native.Mathlib.Omega.{arith}
+use Rattle.names.specs.Read.{Read, got, none, refused, Reader, follow, pure}
+use Rattle.names.specs.Texts.{blank, blanks}
+use Rattle.names.specs.Names.{name, week}
+use Rattle.names.proofs.Local.{past-one}
+use Rattle.names.proofs.Upto.{Upto, upto-then, upto-or, upto-less}
+use Rattle.names.proofs.Cut.{blank-local}
+use Rattle.names.proofs.NameCut.{name-local}
+use Rattle.records.specs.declared.Item.{Item}
+use Rattle.records.proofs.Cut.{Alike}
+use Rattle.times.proofs.Cut.{timeItem-alike}
+use Rattle.days.proofs.Cut.{weekdayItem-alike, holidayItem-alike}
+use Rattle.dates.specs.Weeks.{weekItem}
+use Rattle.dates.proofs.Cut.{yearItem-alike, weekItem-alike, monthDayItem-alike}
+use Rattle.items.specs.Musts.{missing, must}
+use Rattle.items.specs.Kinds.{apart, Placed, at, weeks, itemOf, itemIn}
+use Rattle.items.specs.declared.Kind.{Kind}
+use Rattle.items.specs.declared.Kind.the-variants.{Years, MonthDays, Weeks, WeekNumbers, Weekdays, LastWeekdays, Holidays, LastHolidays, Times}
+
+-- an item that is read from i up to j, and its place
+abbrev pub Inside : ℕ → Placed → ℕ → Type 0
+Inside i a j = (i ≤ a .1) × (a .1 < j)
+
+-- from an earlier place
+pub inside-from : {i j : ℕ} (a : Placed) (k : ℕ) → i ≤ j → Inside j a k → Inside i a k
+inside-from a k h p = (omega (arith, p .0), p .1)
+
+module _ (s : List ℕ) where
+  -- what has to stand at a place
+  pub must-upto : {A : Type 0} (P : A → ℕ → Type 0) (i : ℕ) (m : Reader A) → Upto P (m s i) → Upto P (must m s i)
+  unfolding missing
+  must-upto P i m h = upto-or P s i (m s i) missing h (upto-then P s i _ (blanks s i) (λ _ j e. tt))
+
+  -- what stands after a blank
+  pub apart-upto : {A : Type 0} (P : A → ℕ → Type 0) (i : ℕ) (m : Reader A) → ((j : ℕ) → i < j → Upto P (m s j)) → Upto P (apart m s i)
+  apart-upto P i m h = upto-then P s i (λ _. m) (blank s i) (λ _ j e. h j (past-one blank-local e .0))
+
+  -- an item at its place
+  at-inside : {k : ℕ} {m : Reader Item} → Alike [] (suc k) m → (i : ℕ) → Upto (Inside i) (at m s i)
+  at-inside {m = m} M i = upto-then (Inside i) s i (λ a. pure (a, i)) (m s i) (λ a j e. (omega arith, past-one M e .0))
+
+  weeks-inside : (i : ℕ) → Upto (Inside i) (weeks s i)
+  unfolding weeks
+  weeks-inside i =
+      upto-then (Inside i) s i (λ _. must (apart (at weekItem))) (name week s i) (λ _ j e. must-upto (Inside i) j (apart (at weekItem))
+      (apart-upto (Inside i) j (at weekItem) (λ k h. upto-less (Inside k) (Inside i) (λ a l. inside-from a l (omega (arith, past-one (name-local week) e .0))) (at weekItem s k) (at-inside weekItem-alike k))))
+
+  itemOf-inside : (k : Kind) (i : ℕ) → Upto (Inside i) (itemOf k s i)
+  unfolding itemOf
+  itemOf-inside Years i = at-inside yearItem-alike i
+  itemOf-inside MonthDays i = at-inside monthDayItem-alike i
+  itemOf-inside Weeks i = weeks-inside i
+  itemOf-inside WeekNumbers i = at-inside weekItem-alike i
+  itemOf-inside Weekdays i = at-inside weekdayItem-alike i
+  itemOf-inside LastWeekdays i = at-inside weekdayItem-alike i
+  itemOf-inside Holidays i = at-inside holidayItem-alike i
+  itemOf-inside LastHolidays i = at-inside holidayItem-alike i
+  itemOf-inside Times i = at-inside timeItem-alike i
+
+  -- an item of one of several kinds
+  pub itemIn-inside : (ks : List Kind) (i : ℕ) → Upto (λ x j. Inside i (x .0) j) (itemIn ks s i)
+  unfolding itemIn
+  itemIn-inside [] i = tt
+  itemIn-inside (k ∷ ks) i = go (itemOf k s i) (itemOf-inside k i) (itemIn-inside ks i)
+    where
+      go : (r : Read Placed) → Upto (Inside i) r → Upto (λ x j. Inside i (x .0) j) (itemIn ks s i) → Upto (λ x j. Inside i (x .0) j) (follow s i r (λ a. pure (a, k)) (itemIn ks))
+      go (got a j) h others = h
+      go none h others = others
+      go (refused n p) h others = tt
