@@ -16,7 +16,7 @@ fn bits_of(x: i32) -> u32
 }
 
 // Four bytes, the lowest first.
-fn put_word(table: &mut [u8], at: usize, n: u32)
+pub fn put_word(table: &mut [u8], at: usize, n: u32)
     requires { ⌜ at + 4 ≤ length (now table) ⌝ }
     ensures { λ _. ⌜ now (table .exit) ≡ sets (now (table .entry)) at (littleEndian n) ⌝ }
 {

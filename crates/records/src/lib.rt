@@ -5,6 +5,7 @@ mod slots;
 mod tables;
 mod words;
 
+pub use bytes::put_word;
 pub use judge::judged;
 use names::Cursor;
 pub use tables::keep;

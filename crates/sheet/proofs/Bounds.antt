@@ -115,7 +115,7 @@ text-small s p n small h = go (rules s p) (rules-bounded s p h)
     go (refused k q) b = refusal-small k q (omega arith)
 
 -- a sheet's
-sheet-small : (s : List ℕ) (n : ℕ) → Small (sheetOf s n .0)
+pub sheet-small : (s : List ℕ) (n : ℕ) → Small (sheetOf s n .0)
 unfolding sheetOf
 sheet-small s n = go (decLt 4096 (length s))
   where

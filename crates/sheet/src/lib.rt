@@ -16,6 +16,7 @@ pub use part_readings::read_part_bytes;
 use rules::Next;
 pub use sheets::read_sheet;
 pub use sheets::read_sheet_bytes;
+pub use sheets::sheet_into;
 
 // What reading a sheet answers.
 pub struct Answer {

@@ -81,7 +81,7 @@ pub fn read_text(s: &[u8], p: usize, size: usize, words: &mut [i32], bytes: &mut
 }
 
 // A sheet is read into both tables, if a table of `size` words has room for its records: one of over 4,096 bytes is not read.
-fn sheet_into(sheet: &[u8], size: usize, words: &mut [i32], bytes: &mut [u8]) -> Answer
+pub fn sheet_into(sheet: &[u8], size: usize, words: &mut [i32], bytes: &mut [u8]) -> Answer
     ensures { λ r. ⌜ (r, (now (words .exit), now (bytes .exit))) ≡ into (now (words .entry), now (bytes .entry)) (sheets.sheetOf (now (sheet .entry)) size) ⌝ }
 {
     if 4096 < sheet.len() {
