@@ -1,4 +1,4 @@
--- The calls for C: the numbers each of them leaves, and the table of bytes afterwards.
+-- The calls for C: the numbers each of them leaves, and the tables of bytes afterwards.
 use Prim.Native.Nat.{ℕ}
 use mathlib.Core.List.{List, [], _∷_}
 use mathlib.Core.Bool.{Bool, true, false}
@@ -8,6 +8,8 @@ use Rattle.sheet.specs.PartReadings.{partReadingBytes}
 use Rattle.sheet.specs.Notes.{notePart}
 use Rattle.sheet.specs.declared.Answer.{Answer}
 use Rattle.sheet.specs.declared.PartAnswer.{PartAnswer}
+use Rattle.feed.specs.Feeds.{feedReadingBytes}
+use Rattle.feed.specs.declared.FeedAnswer.{FeedAnswer}
 
 -- 1 or 0
 abbrev pub flag : Bool → ℕ
@@ -26,6 +28,10 @@ partNumbers a = a.number ∷ a.place ∷ a.records ∷ a.warnings ∷ a.next ∷
 abbrev pub noteNumbers : Bool × (ℕ × ℕ) → List ℕ
 noteNumbers x = flag (x .0) ∷ x .1 .0 ∷ x .1 .1 ∷ []
 
+-- number, lines, records
+abbrev pub feedNumbers : FeedAnswer → List ℕ
+feedNumbers a = a.number ∷ a.lines ∷ a.records ∷ []
+
 -- a sheet s is read into a table t: the numbers of the reading with room for as many records as t has whole 64 bytes, and the bytes of its records
 unfoldable pub sheetCall : List ℕ → List ℕ → List ℕ × List ℕ
 sheetCall s t = (sheetNumbers (sheetReadingBytes s t .0), sheetReadingBytes s t .1)
@@ -37,3 +43,7 @@ partCall s p t = (partNumbers (partReadingBytes s p t .0), partReadingBytes s p 
 -- the note for a comment's start and length, in a sheet and beside a standing note of so many bytes
 unfoldable pub noteCall : ℕ → ℕ → ℤ → ℤ → List ℕ
 noteCall sheet note start length = noteNumbers (notePart sheet note start length)
+
+-- a feed s is read into a table of answers, of 16 bytes each, and a table of records
+unfoldable pub feedCall : List ℕ → List ℕ → List ℕ → List ℕ × (List ℕ × List ℕ)
+feedCall s answers table = (feedNumbers (feedReadingBytes s answers table .0), feedReadingBytes s answers table .1)

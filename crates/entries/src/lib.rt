@@ -1,7 +1,8 @@
-// The calls for C: both readings over bytes, and the note's numbers. include/lorukinde.h has the same words.
+// The calls for C: the readings over bytes, and the note's numbers. include/lorukinde.h has the same words.
 ghost use mathlib.Core.List.{[], _∷_};
 ghost use mathlib.Core.Path.{_≡_};
-ghost use Rattle.entries.specs.Calls.{flag, sheetCall, partCall, noteCall};
+ghost use Rattle.entries.specs.Calls.{flag, sheetCall, partCall, noteCall, feedCall};
+use feed::read_feed_bytes;
 use sheet::note_part;
 use sheet::read_part_bytes;
 use sheet::read_sheet_bytes;
@@ -70,4 +71,21 @@ pub extern "C" fn lorukinde_note(
     *from = part.from;
     *to = part.to;
     flag_of(part.sheets)
+}
+
+// Reads a feed: the number is returned, lines and records are stored.
+#[no_mangle]
+pub extern "C" fn lorukinde_read_feed(
+    feed: &[u8],
+    answers: &mut [u8],
+    table: &mut [u8],
+    lines: &mut usize,
+    records: &mut usize,
+) -> u32
+    ensures { λ r. ⌜ (r ∷ now (lines .exit) ∷ now (records .exit) ∷ [], (now (answers .exit), now (table .exit))) ≡ feedCall (now (feed .entry)) (now (answers .entry)) (now (table .entry)) ⌝ }
+{
+    let a = read_feed_bytes(feed, answers, table);
+    *lines = a.lines;
+    *records = a.records;
+    a.number as u32
 }
