@@ -1,4 +1,4 @@
--- No second answer meets the promise of a user's call, for each of the nine: two that meet it are one.
+-- No second answer meets the promise of a user's call, for each of the twelve: two that meet it are one.
 use Prim.Native.Nat.{ℕ}
 use mathlib.Core.Bool.{Bool}
 use mathlib.Core.List.{List}
@@ -10,7 +10,9 @@ use Rattle.sheet.specs.Notes.{Bytes, Part, notePart, numbersOf, noteOf}
 use Rattle.sheet.specs.declared.Answer.{Answer}
 use Rattle.sheet.specs.declared.PartAnswer.{PartAnswer}
 use Rattle.sheet.specs.declared.NotePart.{NotePart}
-use Rattle.entries.specs.Calls.{sheetCall, partCall, noteCall}
+use Rattle.feed.specs.Feeds.{feedReading, feedReadingBytes}
+use Rattle.feed.specs.declared.FeedAnswer.{FeedAnswer}
+use Rattle.entries.specs.Calls.{sheetCall, partCall, noteCall, feedCall}
 
 -- what is the same as a third thing is the same
 one : {A : Type 0} {x y z : A} → x ≡ z → y ≡ z → x ≡ y
@@ -41,6 +43,14 @@ pub note-apart : (sheet note : Bytes) (a n : ℤ) {place place′ : ℕ × ℕ} 
     Part (noteOf sheet note a n) place bytes → Part (noteOf sheet note a n) place′ bytes′ → (place ≡ place′) × (bytes ≡ bytes′)
 note-apart sheet note a n d e = (one (d .0) (e .0), one (d .1) (e .1))
 
+-- read_feed: the answer, and both tables afterwards
+pub feed-apart : (s : List ℕ) (u t : List ℤ) {x y : FeedAnswer × (List ℤ × List ℤ)} → x ≡ feedReading s u t → y ≡ feedReading s u t → x ≡ y
+feed-apart s u t = one
+
+-- read_feed_bytes
+pub feed-bytes-apart : (s u t : List ℕ) {x y : FeedAnswer × (List ℕ × List ℕ)} → x ≡ feedReadingBytes s u t → y ≡ feedReadingBytes s u t → x ≡ y
+feed-bytes-apart s u t = one
+
 -- lorukinde_read_sheet: the numbers, and the table afterwards
 pub sheet-call-apart : (s t : List ℕ) {x y : List ℕ × List ℕ} → x ≡ sheetCall s t → y ≡ sheetCall s t → x ≡ y
 sheet-call-apart s t = one
@@ -52,3 +62,7 @@ part-call-apart s p t = one
 -- lorukinde_note: the numbers
 pub note-call-apart : (sheet note : ℕ) (a n : ℤ) {x y : List ℕ} → x ≡ noteCall sheet note a n → y ≡ noteCall sheet note a n → x ≡ y
 note-call-apart sheet note a n = one
+
+-- lorukinde_read_feed: the numbers, and both tables afterwards
+pub feed-call-apart : (s u t : List ℕ) {x y : List ℕ × (List ℕ × List ℕ)} → x ≡ feedCall s u t → y ≡ feedCall s u t → x ≡ y
+feed-call-apart s u t = one

@@ -16,3 +16,5 @@ pub mod Proved
 pub mod Numbers
 pub mod Refusals
 pub mod Apart
+pub mod Feeds
+pub mod Within

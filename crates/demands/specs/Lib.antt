@@ -5,3 +5,5 @@ pub mod Together
 pub mod Untouched
 pub mod ByC
 pub mod Bytes
+pub mod Feeds
+pub mod Within
