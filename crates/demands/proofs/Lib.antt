@@ -17,4 +17,6 @@ pub mod Numbers
 pub mod Refusals
 pub mod Apart
 pub mod Feeds
+pub mod FeedBytes
+pub mod ProvedFeeds
 pub mod Within

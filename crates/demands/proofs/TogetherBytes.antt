@@ -3,17 +3,30 @@ use Prim.Native.Nat.{ℕ, zero, suc, _+_, _*_, _≤_, _<_}
 use mathlib.Core.List.{List, [], _∷_, _++_}
 use mathlib.Core.Path.{_≡_, refl, sym, ap, _∙_}
 use native.Mathlib.Omega.{arith}
+use native.Mathlib.Nat.{suc-mul, mul-assoc, mul-le-mul-right, le-trans}
 use lib.IntN.{ℤ}
 use lib.ListN.{length, set, length-append, length-set}
 use lib.Seq.{sets, length-sets}
 use Rattle.records.specs.Bytes.{littleEndian, wordBytes, recordBytes}
 use Rattle.records.proofs.Stores.{length-bytes}
 use Rattle.records.proofs.Cells.{Sixteen}
-use Rattle.records.specs.Tables.{asWords, asBytes, laid}
+use Rattle.records.specs.Tables.{Layout, asBytes, laid}
 use Rattle.sheet.specs.Sheets.{writtenAs, sheetOf, sheetReading, wordsIn, sheetReadingBytes}
 use Rattle.sheet.specs.PartReadings.{partOf, partReading, partReadingBytes}
 use Rattle.sheet.proofs.Readings.{part-held, sheet-held}
 use Rattle.demands.specs.Bytes.{BytesOfWords}
+
+-- c words to a slot of a table of words, and their bytes
+abbrev inWords : ℕ → Layout ℤ
+inWords c = record { cells = λ r. r; width = c }
+
+abbrev inBytes : ℕ → Layout ℕ
+inBytes c = record { cells = recordBytes; width = c * 4 }
+
+-- each of these has c words
+abbrev pub Each : ℕ → List (List ℤ) → Type 0
+Each c [] = Unit {0}
+Each c (r ∷ rs) = (length r ≡ c) × Each c rs
 
 module _ (rest : List ℕ) where
   -- a word's bytes stored in the bytes of words
@@ -35,15 +48,21 @@ module _ (rest : List ℕ) where
       ∙ ap (λ (n : ℕ). sets (recordBytes (set w i z) ++ rest) n (recordBytes r)) e
       ∙ record-bytes r (set w i z) (suc i) (rw length-set (omega arith))
 
-  -- and those of records that have room
-  laid-bytes : (rs : List (List ℤ)) (w : List ℤ) (k : ℕ) → Sixteen rs → (k + length rs) * 16 ≤ length w → laid asBytes (recordBytes w ++ rest) k rs ≡ recordBytes (laid asWords w k rs) ++ rest
+  -- and those of many, of c words each, that have room
+  pub laid-bytes : (c : ℕ) (rs : List (List ℤ)) (w : List ℤ) (k : ℕ) → Each c rs → (k + length rs) * c ≤ length w → laid (inBytes c) (recordBytes w ++ rest) k rs ≡ recordBytes (laid (inWords c) w k rs) ++ rest
   unfolding laid
-  laid-bytes [] w k h l = refl
-  laid-bytes (r ∷ rs) w k h l =
-      let e : k * 64 ≡ k * 16 * 4 = omega arith in
-      ap (λ (n : ℕ). laid asBytes (sets (recordBytes w ++ rest) n (recordBytes r)) (suc k) rs) e
-      ∙ ap (λ (t : List ℕ). laid asBytes t (suc k) rs) (record-bytes r w (k * 16) (omega (arith, h .0)))
-      ∙ laid-bytes rs (sets w (k * 16) r) (suc k) (h .1) (rw length-sets (omega arith))
+  laid-bytes c [] w k h l = refl
+  laid-bytes c (r ∷ rs) w k h l =
+      let e : k + suc (length rs) ≡ suc k + length rs = omega arith in
+      let room : suc k * c ≤ length w = le-trans (mul-le-mul-right c (omega arith)) l in
+      ap (λ (n : ℕ). laid (inBytes c) (sets (recordBytes w ++ rest) n (recordBytes r)) (suc k) rs) (sym (mul-assoc k c 4))
+      ∙ ap (λ (t : List ℕ). laid (inBytes c) t (suc k) rs) (record-bytes r w (k * c) (omega (arith, h .0, suc-mul k c)))
+      ∙ laid-bytes c rs (sets w (k * c) r) (suc k) (h .1) (rw (length-sets, ← e) l)
+
+-- a record has 16 words
+pub each-sixteen : (rs : List (List ℤ)) → Sixteen rs → Each 16 rs
+each-sixteen [] h = tt
+each-sixteen (r ∷ rs) h = (h .0, each-sixteen rs (h .1))
 
 -- a table of bytes that are the bytes of a table of m records, and fewer than a record's behind them
 module _ (w : List ℤ) (rest : List ℕ) (m : ℕ) (e : length w ≡ m * 16) (h : length rest < 64) where
@@ -58,7 +77,7 @@ module _ (w : List ℤ) (rest : List ℕ) (m : ℕ) (e : length w ≡ m * 16) (h
       let t : List ℕ = recordBytes w ++ rest in
       let q = sheet-held s (length w) in
       ap (λ (n : ℕ). writtenAs asBytes t (sheetOf s n)) room
-      ∙ ap (λ (l : List ℕ). (sheetOf s (length w) .0, l)) (laid-bytes rest (sheetOf s (length w) .1) w 0 (q .long) (omega (arith, q .room)))
+      ∙ ap (λ (l : List ℕ). (sheetOf s (length w) .0, l)) (laid-bytes rest 16 (sheetOf s (length w) .1) w 0 (each-sixteen (sheetOf s (length w) .1) (q .long)) (omega (arith, q .room)))
 
   -- and after a part is
   pub part-as-words : (s : List ℕ) (p : ℕ) → partReadingBytes s p (recordBytes w ++ rest) ≡ (partReading s p w .0, recordBytes (partReading s p w .1) ++ rest)
@@ -67,7 +86,7 @@ module _ (w : List ℤ) (rest : List ℕ) (m : ℕ) (e : length w ≡ m * 16) (h
       let t : List ℕ = recordBytes w ++ rest in
       let q = part-held s p (length w) in
       ap (λ (n : ℕ). writtenAs asBytes t (partOf s p n)) room
-      ∙ ap (λ (l : List ℕ). (partOf s p (length w) .0, l)) (laid-bytes rest (partOf s p (length w) .1) w 0 (q .long) (omega (arith, q .room)))
+      ∙ ap (λ (l : List ℕ). (partOf s p (length w) .0, l)) (laid-bytes rest 16 (partOf s p (length w) .1) w 0 (each-sixteen (partOf s p (length w) .1) (q .long)) (omega (arith, q .room)))
 
 -- so of every table of bytes (`bytes-of-words`)
 module _ {t : List ℕ} (b : BytesOfWords t) (s : List ℕ) where
