@@ -1,6 +1,6 @@
--- Feeds of document 04, section 2, whose answers no other request changes, and one with a final byte 10: one table, proved by one statement that the checker computes.
+-- The feeds of document 04, section 2, and one with a final byte 10: one table, proved by one statement that the checker computes.
 use Prim.Native.Nat.{ℕ}
-use mathlib.Core.List.{List, [], _∷_, _++_, map}
+use mathlib.Core.List.{List, [], _∷_, map}
 use mathlib.Core.Path.{_≡_, refl}
 use lib.IntN.{ℤ, pos}
 use Rattle.names.specs.Texts.{bytes}
@@ -17,26 +17,27 @@ pub record Row : Type 0 where
   pub numbers : List ℕ
   pub answers : List (List ℤ)
 
--- a line that is accepted with so many records
+-- the answer of a line that is accepted with so many records
 abbrev good : ℕ → List ℤ
 good n = pos 0 ∷ pos 0 ∷ pos n ∷ pos 0 ∷ []
 
--- one that does not fit
-abbrev full : List ℤ
-full = pos 10 ∷ pos 0 ∷ pos 0 ∷ pos 0 ∷ []
-
--- byte 10
-abbrev ten : List ℕ
-ten = 10 ∷ []
+-- and of one that is refused
+abbrev bad : ℕ → ℕ → List ℤ
+bad number place = pos number ∷ pos place ∷ pos 0 ∷ pos 0 ∷ []
 
 -- the table
 unfoldable pub rows : List Row
 rows =
-    record { feed = bytes "Mo" ++ ten ++ bytes "Tu" ++ ten ++ bytes "24/7"; places = 3; words = 48; numbers = 0 ∷ 3 ∷ 3 ∷ []; answers = good 2 ∷ full ∷ good 1 ∷ [] }
-    ∷ record { feed = bytes "Mo" ++ ten ++ bytes "Tu"; places = 2; words = 63; numbers = 0 ∷ 2 ∷ 2 ∷ []; answers = good 2 ∷ full ∷ [] }
-    ∷ record { feed = bytes "Mo" ++ ten ++ bytes "Tu"; places = 1; words = 64; numbers = 14 ∷ 0 ∷ 0 ∷ []; answers = [] }
-    ∷ record { feed = bytes "Mo" ++ ten ++ bytes "Tu" ++ ten; places = 2; words = 64; numbers = 0 ∷ 2 ∷ 4 ∷ []; answers = good 2 ∷ good 2 ∷ [] }
-    ∷ record { feed = []; places = 0; words = 0; numbers = 0 ∷ 0 ∷ 0 ∷ []; answers = [] }
+    record { feed = bytes "\n"; places = 2; words = 64; numbers = 0 ∷ 1 ∷ 0 ∷ []; answers = bad 11 0 ∷ [] }
+    ∷ record { feed = bytes "Mo\n\n"; places = 2; words = 64; numbers = 0 ∷ 2 ∷ 2 ∷ []; answers = good 2 ∷ bad 11 0 ∷ [] }
+    ∷ record { feed = bytes "Mo\r\nTu"; places = 2; words = 64; numbers = 0 ∷ 2 ∷ 2 ∷ []; answers = bad 3 2 ∷ good 2 ∷ [] }
+    ∷ record { feed = bytes "Mo \"a\nb\""; places = 2; words = 64; numbers = 0 ∷ 2 ∷ 0 ∷ []; answers = bad 12 3 ∷ bad 3 0 ∷ [] }
+    ∷ record { feed = bytes "Mo\nMo 10:00"; places = 2; words = 64; numbers = 0 ∷ 2 ∷ 2 ∷ []; answers = good 2 ∷ bad 8 3 ∷ [] }
+    ∷ record { feed = bytes "Mo\nTu\n24/7"; places = 3; words = 48; numbers = 0 ∷ 3 ∷ 3 ∷ []; answers = good 2 ∷ bad 10 0 ∷ good 1 ∷ [] }
+    ∷ record { feed = bytes "Mo\nTu"; places = 2; words = 63; numbers = 0 ∷ 2 ∷ 2 ∷ []; answers = good 2 ∷ bad 10 0 ∷ [] }
+    ∷ record { feed = bytes "Mo\nTu"; places = 1; words = 64; numbers = 14 ∷ 0 ∷ 0 ∷ []; answers = [] }
+    ∷ record { feed = bytes ""; places = 0; words = 0; numbers = 0 ∷ 0 ∷ 0 ∷ []; answers = [] }
+    ∷ record { feed = bytes "Mo\nTu\n"; places = 2; words = 64; numbers = 0 ∷ 2 ∷ 4 ∷ []; answers = good 2 ∷ good 2 ∷ [] }
     ∷ []
 
 -- the numbers and the lines' answers that the definition computes

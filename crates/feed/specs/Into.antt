@@ -33,15 +33,16 @@ pub record Small (a : Answer) : Type 0 where
   pub records : a .records ≤ 4096
   pub warnings : a .warnings ≤ 4096
 
--- the words of answers in their slots, one after the other from slot k on, where the table has them
+-- these words in their slots of one table, one after the other from slot k on, where it has them
 unfoldable pub keptAll : {A : Type 0} → Layout A → List A → ℕ → List (List ℤ) → List A
 keptAll d t k [] = t
 keptAll d t k (r ∷ rs) = keptAll d (kept d t k r) (suc k) rs
 
--- in a table of words and in one of bytes
+-- an answer's words in slot k of a table of words and of one of bytes
 abbrev pub answerKept : Tables → ℕ → List ℤ → Tables
 answerKept t k w = (kept answersAsWords (t .0) k w, kept answersAsBytes (t .1) k w)
 
+-- those of answers, from slot k on
 abbrev pub answersKept : Tables → ℕ → List (List ℤ) → Tables
 answersKept t k ws = (keptAll answersAsWords (t .0) k ws, keptAll answersAsBytes (t .1) k ws)
 
