@@ -10,7 +10,7 @@ extern "C" {
 #endif
 
 /* Of each call the caller keeps this: no pointer is null, not even one with the length 0; each points to so many bytes, or
- * to one number, that are initialised; what a call writes to (table, and each number) overlaps nothing else that it is given.
+ * to one number, that are initialised; what a call writes to (tables, and each number) overlaps nothing else that it is given.
  * A call keeps no pointer, allocates nothing, and changes nothing else. It answers for any bytes and any numbers.
  * A reading takes about 4 kilobytes of stack. */
 
@@ -51,7 +51,8 @@ enum {
     LORUKINDE_NO_ROOM = 10,       /* all else good, more records than whole 64-byte groups in the table; the text's first byte */
     LORUKINDE_EMPTY_RULE = 11,    /* no shape fits: an empty rule; where it begins */
     LORUKINDE_BROKEN_QUOTE = 12,  /* no shape fits: a quote, and after it another one or none at all; read so far */
-    LORUKINDE_ILL_FORMED_COMMENT = 13 /* a comment that is not well-formed UTF-8 (RFC 3629); its first quote */
+    LORUKINDE_ILL_FORMED_COMMENT = 13, /* a comment that is not well-formed UTF-8 (RFC 3629); its first quote */
+    LORUKINDE_NO_ANSWER_ROOM = 14 /* of a feed alone: more lines than whole 16-byte groups in the answer table */
 };
 
 /* Reads a sheet. The number is returned; place, records and warnings are stored.
@@ -69,6 +70,17 @@ uint32_t lorukinde_read_sheet(const uint8_t *sheet, size_t sheet_len, uint8_t *t
  * Every refusal gives 0 records and 0 warnings and changes no byte of the table; 1 and 2 give next 0, last; the others the true next. */
 uint32_t lorukinde_read_part(const uint8_t *sheet, size_t sheet_len, size_t begin, uint8_t *table, size_t table_len,
                              uint32_t *place, uint32_t *records, uint32_t *warnings, uint32_t *next, uint32_t *last);
+
+/* Reads a feed: sheets, one a line, parted by byte 10, inside quotes too. A final byte 10 starts no line; an empty feed has none.
+ * The number is returned, 0 or 14; how many lines and how many records there are is stored.
+ * Each line has an answer, 16 bytes of the answer table: number, place, records, warnings, four words as a record's are. The answers
+ * follow each other, and so do the lines' records in the table. Each line's answer and records are those of lorukinde_read_sheet on
+ * the line with the room that the lines before it have left, places counted from the line's first byte; a line that does not fit
+ * answers 10, uses no room, and the next is tried. The feed may be of any length: a line of over 4,096 bytes answers 1.
+ * 14 gives 0 lines and 0 records and changes no byte; otherwise every byte past the answers and past the records is unchanged. */
+#define LORUKINDE_ANSWER_BYTES 16
+uint32_t lorukinde_read_feed(const uint8_t *feed, size_t feed_len, uint8_t *answers, size_t answers_len, uint8_t *table,
+                             size_t table_len, size_t *lines, size_t *records);
 
 /* The note shown for a rule, by the comment's start and length out of its head. Returned is 1 where the note is a part of the
  * sheet, 0 where it is a part of the caller's standing note; where it begins and where it ends are stored in from and to.

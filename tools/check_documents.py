@@ -9,9 +9,9 @@ import os
 import re
 import sys
 
-from reference import bytes_of, chain, line_of, read_part, read_sheet
+from reference import bytes_of, chain, line_of, read_feed, read_part, read_sheet
 
-IN_FORCE = {1, 3, 7, 8}
+IN_FORCE = {1, 2, 3, 7, 8}
 CHANGES = (1, 3, 7, 8, 9, 12)  # the Asks after which a sheet or a part is read otherwise
 WORDS = 8192
 NO = [0] * 16
@@ -111,7 +111,7 @@ PARTS = {
 SHEETS = {("Mo;Tu", 32): (10, 0), ("Mo;Tu", 63): (10, 0), ("Mo;Tu", 64): (0, 0), ("Mo", 47): (0, 0), ("Mo;x", 0): (3, 3), ("Mo" + " " * 4094, 32): (0, 0)}
 
 SECTION = re.compile(r"\*\*(\d+\.\d+) ")
-CASE = re.compile(r"- \[(\d+)( part| words)?\] `(.*?)`(?: at (\d+))? → \*\*(.*?)\*\*")
+CASE = re.compile(r"- \[(\d+)( part| words| feed)?\] `(.*?)`(?: at (\d+)| answers (\d+) table (\d+))? → \*\*(.*?)\*\*")
 
 
 def taken(path):
@@ -121,8 +121,8 @@ def taken(path):
         section = m.group(1) if (m := SECTION.match(line)) else section
         m = CASE.match(line)
         if m and {n for n in CHANGES if n <= int(m.group(1))} <= IN_FORCE:
-            ask, call, sheet, place, answer = m.groups(default="")
-            yield section, f"{ask}{call} {place}".strip(), sheet, answer.strip()
+            ask, call, sheet, *numbers, answer = m.groups(default="")
+            yield section, " ".join([ask + call, *filter(None, numbers)]), sheet, answer.strip()
 
 
 def readings_04():
@@ -132,6 +132,9 @@ def readings_04():
 
 def said(call, s):
     """a reading, as document 04 writes it"""
+    if "feed" in call:
+        number, answers, records = read_feed(s, *map(int, call.split()[2:]))
+        return f"{number} {len(answers)} {len(records)}: {' / '.join(map(line_of, answers))}".strip()
     if "part" in call:
         number, place, records, warned, follows, last = read_part(s, int(call.split()[-1]), WORDS)
         return f"{number} {place} {len(records)} {warned} {follows} {'last' if last else 'more'}"
@@ -163,6 +166,9 @@ def wrong():
     head = chain(b'Mo; "a"', 512)[1][1][2][0]
     if (head[3], head[15]) != (5, 4):
         yield 'Mo; "a"', "start 5, place 4 in its part", head
+    head = read_feed(b'Mo\n "a"', 8, 64)[2][2]
+    if (head[3], head[15]) != (2, 1):
+        yield 'Mo\\x0a "a"', "start 2, place 1 in its line", head
 
 
 def missing_01(path):
@@ -188,7 +194,7 @@ def main():
     for path, missing in zip(sys.argv[1:], (missing_01, missing_04)):
         for name in missing(path):
             print(f"not looked at: {name}")
-    print(f"{len(readings_04()) + len(DOCUMENT_01) + len(READINGS) + len(PARTS) + len(SHEETS) + 1} looked at, {len(found)} read otherwise")
+    print(f"{len(readings_04()) + len(DOCUMENT_01) + len(READINGS) + len(PARTS) + len(SHEETS) + 2} looked at, {len(found)} read otherwise")
 
 
 if __name__ == "__main__":

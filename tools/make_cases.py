@@ -5,6 +5,11 @@
     python3 tools/oracle/replay.py crates/cases/stdin > crates/cases/stdout      at most 1 MiB, where rt cuts what a program writes
     python3 tools/make_cases.py count         how many of each origin
 
+and the cases of calls that crates/cases does not make, which the Rust tests replay:
+
+    python3 tools/make_cases.py ask2 > tools/cases_ask2.txt                         feeds
+    python3 tools/reference.py cases tools/cases_ask2.txt > tools/cases_ask2.out
+
 documents.txt has the sheets of the rules and of their readings, readings_04.txt those of document 04 (its form: check_documents.py), specification.txt examples of the OpenStreetMap wiki's pages on opening hours, as far as they are remembered, sample.txt sheets whose answers are
 the Rust's own (tools/oracle/README.md).
 A case's form is in reference.py, `case`. A line cannot hold byte 10 (three sheets of the readings have it, and are left out); every other byte stands in some sheet.
@@ -22,14 +27,22 @@ def line(sheet, mode="S", words=WORDS, part=" "):
     return b"%04d%s%s" % (words, mode.encode(), part.encode()) + raw
 
 
+def known(name):
+    return open(os.path.join(TOOLS, name)).read().split("\n")[:-1]
+
+
 def sheets_of(name):
-    text = open(os.path.join(TOOLS, name)).read()
-    return [line(s, "A") for s in text.split("\n")[:-1]]
+    return [line(s, "A") for s in known(name)]
+
+
+def sheets_04():
+    """the sheets of readings_04.txt; of a feed, which has byte 10, none"""
+    fields = [x.split("\t") for x in known("readings_04.txt")[1:]]
+    return [sheet for _, call, sheet, _ in fields if "feed" not in call]
 
 
 def readings_04():
-    text = open(os.path.join(TOOLS, "readings_04.txt")).read()
-    return [line(x.split("\t")[2], "A") for x in text.split("\n")[1:-1]]
+    return [line(s, "A") for s in sheets_04()]
 
 
 # ---- every piece behind every piece
@@ -238,6 +251,25 @@ def notes():
     return [line(s, "N", 0) for s in ("", '"', 'Mo', '"abc"', 'Mo "a"', '"\\xff\\x00;|b"', 'Mo "abcdefgh"')]
 
 
+# ---- feeds
+def feed(sheets, answers, words, end=""):
+    """a case of a feed: byte 9 for byte 10"""
+    return line("%04d" % answers + "\\x09".join(sheets) + end, "F", words)
+
+
+def feeds():
+    """lines of every kind, tables of 0 words and more for answers and for records, the known sheets all together"""
+    some = [[], [""], ["Mo"], ["Mo", "Tu"], ["Mo", "", "24/7"], ["", "", ""], ["x", "Mo", "10:00", "off"], ['Mo "a', 'b"'], ["Mo\\x0d", "Tu"], [" Mo ;Tu", 'off "c"; "d": We', "Fr,Sa, Su"], ["mo", "1899", "Mo[6],Tu", "  OFF"], ['"\\xff"', '"\\xc3\\xa9"', "\\x00", "Mo;;"]]
+    out = [feed(s, a, w, end) for s in some for a in (4 * len(s), 4 * len(s) + 3) for w in (0, 16, 31, 32, 63, 64, 512) for end in ("", "\\x09")]
+    out += [feed(s, a, 512, end) for s in some for a in range(4 * len(s)) for end in ("", "\\x09")]
+    out += [feed(["Mo,Tu,We", "off", "Mo,Tu", "10:00-12:00", "24/7", "Mo;Tu"], 24, w) for w in range(0, 256, 8)]
+    out += [feed(["Mo", " " * 4097, "Tu"], 12, 512), feed([" " * 4096, "Tu"], 8, 64), feed(['"' + "c" * 4094 + '"', "Tu"], 8, 64)]
+    for texts in (known("documents.txt"), known("specification.txt"), sheets_04()):
+        texts = [x for x in texts if "\\x0a" not in x and "\\x09" not in x]
+        out += [feed(texts[i:i + 60], 4 * 60, w) for i in range(0, len(texts), 60) for w in (800, 8192)]
+    return out
+
+
 # ---- the Rust's own answers
 def sample():
     """the sheets of the sample; its first line says how it was made"""
@@ -250,11 +282,12 @@ ORIGINS = {
     "tables": tables, "blanks": blanks, "odd bytes": odd_bytes, "letters": letters, "quotes": quotes, "long sheets": long_sheets, "exchanges": exchanges, "notes": notes,
     "the Rust's answers": sample,
 }
+OF_OTHER_CALLS = {"ask2": feeds}
 
 
 def main():
     seen = set()
-    for name, make in ORIGINS.items():
+    for name, make in [(name, OF_OTHER_CALLS[name]) for name in sys.argv[1:] if name in OF_OTHER_CALLS] or ORIGINS.items():
         lines = [x for x in make() if not (x in seen or seen.add(x))]
         assert not any(b"\n" in x for x in lines)
         if sys.argv[1:] == ["count"]:

@@ -478,6 +478,26 @@ def chain(s, words):
         place = out[-1][1][4]
 
 
+# ---- feeds
+def feed_lines(feed):
+    """the sheets of a feed, parted by byte 10; a final one starts no line"""
+    lines = feed.split(b"\n")
+    return lines if lines[-1] else lines[:-1]
+
+
+def read_feed(feed, answer_words, words):
+    """(number, the lines' answers, their records) with tables of so many words; each line has the room that the lines before it have left"""
+    answers, records = [], []
+    lines = feed_lines(feed)
+    if answer_words // 4 < len(lines):
+        return 14, [], []
+    for line in lines:
+        number, place, got, warned = read_sheet(line, words - 16 * len(records))
+        answers.append((number, place, len(got), warned))
+        records += got
+    return 0, answers, records
+
+
 # ---- cases
 def shown(reading):
     """an answer's line, and one for each record"""
@@ -513,6 +533,12 @@ def exchange_lines(s, t, k, words):
     return [f"X {same.count(True)} {same.count(False)}"]
 
 
+def feed_answer_lines(feed, answer_words, words):
+    """a feed's number, lines and records, then each line's answer, then each record"""
+    number, answers, records = read_feed(feed, answer_words, words)
+    return [line_of(x) for x in [(number, len(answers), len(records)), *answers, *records]]
+
+
 def note(s, standing, start, length):
     """the comment out of the sheet, the standing note, or for numbers outside the sheet nothing"""
     if length == 0:
@@ -528,13 +554,16 @@ def note_lines(s):
 def case(raw):
     """A case: four digits for the words of the table; a letter; a blank (after X, the number of the exchanged part); the sheet.
     S the sheet. P its parts, and the places where they begin. A both. L, for a long sheet, both without the places.
-    X two sheets with byte 9 between them, of which one part differs. N the notes for some starts and lengths."""
+    X two sheets with byte 9 between them, of which one part differs. N the notes for some starts and lengths.
+    F four digits for the words of the answer table, and a feed, in which byte 9 stands for byte 10."""
     words, mode, s = int(raw[:4]), raw[4:5], raw[6:]
     if mode == b"X":
         one, other = s.split(b"\t")
         return exchange_lines(one, other, int(raw[5:6]), words)
     if mode == b"N":
         return note_lines(s)
+    if mode == b"F":
+        return feed_answer_lines(s[4:].replace(b"\t", b"\n"), int(s[:4]), words)
     out = []
     if mode in b"SAL":
         out += sheet_lines(s, words)

@@ -1,5 +1,5 @@
-/* Faults planted round the entries, to show that the fuzzer finds them: FAULT=1 to 37 in the environment, 0 for none. Linked with
- * -Wl,--wrap=lorukinde_read_sheet,--wrap=lorukinde_read_part,--wrap=lorukinde_note, so the library itself stays as it is. */
+/* Faults planted round the entries, to show that the fuzzer finds them: FAULT=1 to 46 in the environment, 0 for none. Linked with
+ * -Wl,--wrap for each call (run.sh), so the library itself stays as it is. */
 #include <stdlib.h>
 #include <string.h>
 
@@ -7,6 +7,7 @@
 
 uint32_t __real_lorukinde_read_sheet(const uint8_t *, size_t, uint8_t *, size_t, uint32_t *, uint32_t *, uint32_t *);
 uint32_t __real_lorukinde_read_part(const uint8_t *, size_t, size_t, uint8_t *, size_t, uint32_t *, uint32_t *, uint32_t *, uint32_t *, uint32_t *);
+uint32_t __real_lorukinde_read_feed(const uint8_t *, size_t, uint8_t *, size_t, uint8_t *, size_t, size_t *, size_t *);
 uint32_t __real_lorukinde_note(size_t, size_t, int32_t, int32_t, size_t *, size_t *);
 
 static int fault(void)
@@ -66,6 +67,26 @@ uint32_t __wrap_lorukinde_read_part(const uint8_t *sheet, size_t n, size_t begin
     case 24: last[1] = 0; break;
     case 36: if (used && table[60] >= begin) table[60] -= (uint8_t)begin; break; /* a head's place is the part's, not the sheet's */
     case 37: if (used > 64 && table[124] < 255) table[124]++; break;      /* an item's place is its second byte */
+    }
+    return number;
+}
+
+uint32_t __wrap_lorukinde_read_feed(const uint8_t *feed, size_t n, uint8_t *answers, size_t answer_bytes, uint8_t *table, size_t bytes, size_t *lines, size_t *records)
+{
+    if (fault() == 38 && n && feed[n - 1] == '\n')
+        n--;                                                              /* an empty line at the end is not read */
+    if (fault() == 39)
+        bytes -= bytes < 64 ? 0 : bytes / 64 % 2 * 64;                    /* not all of the room is used */
+    uint32_t number = __real_lorukinde_read_feed(feed, n, answers, answer_bytes, table, bytes, lines, records);
+    uint8_t *second = answers + 16;
+    switch (fault()) {
+    case 40: *records += number == 0 && *lines > 0; break;
+    case 41: if (answer_bytes > 16 * *lines) answers[16 * *lines] ^= 1; break; /* a byte after the answers is changed */
+    case 42: if (number == 14 && answer_bytes) answers[0] ^= 1; break;    /* answers are written before 14 is known */
+    case 43: if (bytes > 64 * *records) table[64 * *records] ^= 1; break; /* a byte after the records is changed */
+    case 44: if (*lines > 1 && second[0] == 3) second[4]++; break;        /* a later line's place is moved */
+    case 45: if (*lines > 2 && second[0] == 10) *lines = 2; break;        /* a line that does not fit ends the feed */
+    case 46: lines[1] = 0; break;
     }
     return number;
 }

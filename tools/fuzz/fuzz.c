@@ -1,7 +1,7 @@
 /* fuzz SEED CALLS end|begin: drives the C entries with random sheets, tables and places for at least CALLS calls, and stops at the first wrong answer.
  *
- * Every lent buffer (sheet, table, each number) ends exactly at an unreadable page (end) or begins exactly behind one (begin), so a step outside it on
- * that side is a fault; on the other side the bytes next to it are compared. The sheet is lent through a read-only view. Before each call the table has
+ * Every lent buffer (sheet, table, answers, each number) ends exactly at an unreadable page (end) or begins exactly behind one (begin), so a step outside it on
+ * that side is a fault; on the other side the bytes next to it are compared. The sheet, or feed, is lent through a read-only view. Before each call the table has
  * fresh random marks; after it every byte behind the records is as before, and on a refusal every byte. */
 #define _GNU_SOURCE
 #include <signal.h>
@@ -14,7 +14,7 @@
 
 #include "lorukinde.h"
 
-enum { PAGE = 4096, SHEET_ROOM = 6 * PAGE, RECORDS = 2740, TABLE_ROOM = 43 * PAGE, NEAR = 256, NUMBERS = 5, MOST = LORUKINDE_SHEET_BYTES };
+enum { PAGE = 4096, SHEET_ROOM = 6 * PAGE, RECORDS = 2740, TABLE_ROOM = 43 * PAGE, NEAR = 256, NUMBERS = 5, MOST = LORUKINDE_SHEET_BYTES, ANSWER_ROOM = 4 * PAGE };
 
 /* ---- random numbers: splitmix64 */
 static uint64_t state;
@@ -72,16 +72,18 @@ static size_t offset(const struct room *r, size_t length)
     return at_end ? r->size - length : 0;
 }
 
-static struct room sheet_room, table_room, number_rooms[NUMBERS], size_rooms[2];
+static struct room sheet_room, table_room, answer_room, number_rooms[NUMBERS], size_rooms[2];
 static uint8_t marks[TABLE_ROOM]; /* what the table's room held before the call */
 static uint8_t sheet[SHEET_ROOM]; /* the sheet of this round, and its length */
 static size_t length;
+static const uint8_t *lent_bytes; /* the sheet or feed that was lent last, and its length */
+static size_t lent_length;
 
 static void stop(const char *what)
 {
-    printf("WRONG: %s\nsheet of %zu bytes: ", what, length);
-    for (size_t i = 0; i < length; i++)
-        printf(sheet[i] >= 32 && sheet[i] < 127 && sheet[i] != '\\' ? "%c" : "\\x%02x", sheet[i]);
+    printf("WRONG: %s\nlent last, %zu bytes: ", what, lent_length);
+    for (size_t i = 0; i < lent_length; i++)
+        printf(lent_bytes[i] >= 32 && lent_bytes[i] < 127 && lent_bytes[i] != '\\' ? "%c" : "\\x%02x", lent_bytes[i]);
     printf("\n");
     exit(1);
 }
@@ -126,8 +128,8 @@ struct answer {
     const uint8_t *table;
 };
 
-enum { ANSWERS = LORUKINDE_ILL_FORMED_COMMENT + 1 };
-static uint64_t calls, sheet_numbers[ANSWERS], part_numbers[ANSWERS], notes[2], records_seen, warnings_seen;
+enum { ANSWERS = LORUKINDE_NO_ANSWER_ROOM + 1 };
+static uint64_t calls, sheet_numbers[ANSWERS], part_numbers[ANSWERS], feed_numbers[ANSWERS], notes[2], records_seen, warnings_seen;
 
 enum { PLACE = 15 }; /* the word of a record that says where its item begins */
 
@@ -348,6 +350,7 @@ static void answer_good(const struct answer *a, const uint8_t *s, size_t begin, 
 static const uint8_t *lend_sheet(const uint8_t *s, size_t n)
 {
     size_t o = offset(&sheet_room, n);
+    lent_bytes = s, lent_length = n;
     memcpy(sheet_room.own + o, s, n);
     return sheet_room.lend + o;
 }
@@ -742,6 +745,11 @@ static size_t cut(void)
     return parts;
 }
 
+static bool same_numbers(const struct answer *a, const struct answer *b)
+{
+    return a->number == b->number && a->place == b->place && a->records == b->records && a->warnings == b->warnings;
+}
+
 /* a reading with some other table: the same answer and records where they fit, else 10 */
 static void same_with(size_t table_bytes, const struct answer *full)
 {
@@ -750,7 +758,7 @@ static void same_with(size_t table_bytes, const struct answer *full)
         need(a.number == 10, "10 where the records do not fit");
         return;
     }
-    need(a.number == full->number && a.place == full->place && a.records == full->records && a.warnings == full->warnings, "the answer hangs on the table");
+    need(same_numbers(&a, full), "the answer hangs on the table");
     need(!memcmp(a.table, whole, 64 * (size_t)a.records), "the records hang on the table");
 }
 
@@ -769,7 +777,7 @@ static void same_alone(size_t begin, size_t end, size_t table_bytes, const struc
         }
 }
 
-static void round_of_calls(void)
+static void round_of_sheets(void)
 {
     static uint8_t kept[RECORDS * 64];
     make_sheet();
@@ -830,6 +838,99 @@ static void round_of_calls(void)
     note(chance(5) ? (size_t)next64() >> below(64) : length, chance(5) ? (size_t)next64() >> below(64) : below(100), start, n);
 }
 
+/* ---- feeds */
+static uint8_t feed[SHEET_ROOM];
+static size_t feed_length;
+
+static void make_feed(void)
+{
+    feed_length = 0;
+    for (size_t n = below(6); n > 0; n--) {
+        make_sheet();
+        if (feed_length + length >= sizeof feed)
+            break;
+        memcpy(feed + feed_length, sheet, length);
+        feed_length += length;
+        feed[feed_length++] = '\n';
+    }
+    if (feed_length && chance(50)) /* the last line without its end */
+        feed_length--;
+}
+
+/* how many bytes of the feed the line at `begin` has */
+static size_t line_length(size_t begin)
+{
+    const uint8_t *end = memchr(feed + begin, '\n', feed_length - begin);
+    return end ? (size_t)(end - feed) - begin : feed_length - begin;
+}
+
+static size_t count_lines(void)
+{
+    size_t n = 0;
+    for (size_t i = 0; i < feed_length; i += line_length(i) + 1)
+        n++;
+    return n;
+}
+
+static struct answer line_answer(const uint8_t *b)
+{
+    return (struct answer){(uint32_t)word(b, 0), (uint32_t)word(b, 1), (uint32_t)word(b, 2), (uint32_t)word(b, 3), 0, 0, NULL};
+}
+
+/* each line's answer and records are those of a single reading with the room still left */
+static void same_by_lines(const uint8_t *answers, const uint8_t *records, size_t all, size_t table_bytes)
+{
+    size_t used = 0;
+    for (size_t i = 0, k = 0; i < feed_length; i += line_length(i) + 1, k++) {
+        struct answer a = line_answer(answers + LORUKINDE_ANSWER_BYTES * k), one = read_sheet(feed + i, line_length(i), table_bytes - 64 * used);
+        need(same_numbers(&a, &one), "a line's answer is not that of its sheet with the room left");
+        need(used + one.records <= all && !memcmp(one.table, records + 64 * used, 64 * (size_t)one.records), "a line's records are not its sheet's");
+        used += one.records;
+    }
+    need(used == all, "a feed's records are not its lines'");
+}
+
+static void read_feed(size_t answer_bytes, size_t table_bytes)
+{
+    static uint8_t answers[ANSWER_ROOM], records[RECORDS * 64];
+    const uint8_t *lent = lend_sheet(feed, feed_length);
+    size_t o = offset(&answer_room, answer_bytes), lines = count_lines();
+    memset(answer_room.own, 0x5a, answer_room.size);
+    uint8_t *table = lend_table(table_bytes);
+    size_t *lines_said = lend_number(&size_rooms[0], sizeof(size_t)), *records_said = lend_number(&size_rooms[1], sizeof(size_t));
+    struct answer a = {0};
+    a.number = lorukinde_read_feed(lent, feed_length, answer_room.lend + o, answer_bytes, table, table_bytes, lines_said, records_said);
+    calls++;
+    number_kept(&size_rooms[0], sizeof(size_t));
+    number_kept(&size_rooms[1], sizeof(size_t));
+    need(*records_said <= RECORDS, "more records than the table holds");
+    a.records = (uint32_t)*records_said;
+    table_kept(table_bytes, &a);
+    need(a.number == (answer_bytes / LORUKINDE_ANSWER_BYTES < lines ? LORUKINDE_NO_ANSWER_ROOM : LORUKINDE_ACCEPTED), "14 is for too few answers");
+    need(*lines_said == (a.number ? 0 : lines) && (a.number == 0 || a.records == 0), "a feed's lines, and none where it is refused");
+    size_t used = LORUKINDE_ANSWER_BYTES * *lines_said;
+    for (size_t i = 0; i < answer_room.size; i++)
+        need((i >= o && i - o < used) || answer_room.own[i] == 0x5a, "a byte beside the answers was changed");
+    feed_numbers[a.number]++;
+    if (a.number)
+        return;
+    memcpy(answers, answer_room.own + o, used);
+    memcpy(records, table, 64 * (size_t)a.records);
+    same_by_lines(answers, records, a.records, table_bytes);
+}
+
+/* a feed with room for its answers, or with less or more */
+static void round_of_feeds(void)
+{
+    make_feed();
+    size_t answer_bytes = LORUKINDE_ANSWER_BYTES * count_lines();
+    if (chance(20))
+        answer_bytes = below(answer_bytes + 1);
+    else if (chance(50))
+        answer_bytes += below(3 * LORUKINDE_ANSWER_BYTES);
+    read_feed(answer_bytes < ANSWER_ROOM ? answer_bytes : ANSWER_ROOM, any_table());
+}
+
 static void counts(const char *name, const uint64_t *numbers, size_t n)
 {
     uint64_t all = 0;
@@ -852,6 +953,7 @@ int main(int argc, char **argv)
     at_end = !strcmp(argv[3], "end");
     sheet_room = room_of(SHEET_ROOM, PROT_READ);
     table_room = room_of(TABLE_ROOM, PROT_READ | PROT_WRITE);
+    answer_room = room_of(ANSWER_ROOM, PROT_READ | PROT_WRITE);
     for (int i = 0; i < NUMBERS; i++)
         number_rooms[i] = room_of(PAGE, PROT_READ | PROT_WRITE);
     for (int i = 0; i < 2; i++)
@@ -860,10 +962,11 @@ int main(int argc, char **argv)
     signal(SIGSEGV, stepped_outside);
     signal(SIGBUS, stepped_outside);
     for (; calls < wanted; rounds++)
-        round_of_calls();
-    printf("seed %s, each buffer's %s at an unreadable page: %llu sheets, %llu calls, nothing wrong\n", argv[1], argv[3], (unsigned long long)rounds, (unsigned long long)calls);
+        chance(15) ? round_of_feeds() : round_of_sheets();
+    printf("seed %s, each buffer's %s at an unreadable page: %llu sheets and feeds, %llu calls, nothing wrong\n", argv[1], argv[3], (unsigned long long)rounds, (unsigned long long)calls);
     counts("read_sheet, by number", sheet_numbers, ANSWERS);
     counts("read_part, by number", part_numbers, ANSWERS);
+    counts("read_feed, by number", feed_numbers, ANSWERS);
     counts("note, out of the standing note (0) or the sheet (1)", notes, 2);
     printf("records looked at: %llu; warnings: %llu\n", (unsigned long long)records_seen, (unsigned long long)warnings_seen);
     return 0;

@@ -5,12 +5,14 @@
 set -euo pipefail
 here=$(cd "$(dirname "$0")" && pwd)
 . "$here/../archive.sh"
-seed=${1:-1} calls=${2:-5000000} dir=$root/target/fuzz faults=37
+seed=${1:-1} calls=${2:-5000000} dir=$root/target/fuzz faults=46
 build "$dir/fuzz" "$here/fuzz.c"
 "${emulator[@]}" "$dir/fuzz" "$seed" "$calls" end
 "${emulator[@]}" "$dir/fuzz" "$((seed + 1))" "$calls" begin
 
-build "$dir/faulty" "$here/fuzz.c" "$here/faults.c" -Wl,--wrap=lorukinde_read_sheet,--wrap=lorukinde_read_part,--wrap=lorukinde_note
+wraps=()
+for call in read_sheet read_part read_feed note; do wraps+=("-Wl,--wrap=lorukinde_$call"); done
+build "$dir/faulty" "$here/fuzz.c" "$here/faults.c" "${wraps[@]}"
 FAULT=0 "${emulator[@]}" "$dir/faulty" "$seed" 100000 end >/dev/null
 found=0
 for ((n = 1; n <= faults; n++)); do

@@ -3,6 +3,7 @@
 //! What the library asks of its caller: no pointer is null, not even one with the length 0; each points to so many bytes, or to
 //! one number, that are initialised; what a call writes to overlaps nothing else that it is given. A call keeps no pointer,
 //! allocates nothing and changes nothing else, for any bytes and any numbers.
+use crate::feed::LineAnswer;
 use crate::record::Record;
 
 extern "C" {
@@ -27,6 +28,17 @@ extern "C" {
         warnings: *mut u32,
         next: *mut u32,
         last: *mut u32,
+    ) -> u32;
+
+    fn lorukinde_read_feed(
+        feed: *const u8,
+        feed_len: usize,
+        answers: *mut u8,
+        answers_len: usize,
+        table: *mut u8,
+        table_len: usize,
+        lines: *mut usize,
+        records: *mut usize,
     ) -> u32;
 
     fn lorukinde_note(sheet_len: usize, note_len: usize, start: i32, length: i32, from: *mut usize, to: *mut usize) -> u32;
@@ -80,6 +92,26 @@ pub fn read_part(sheet: &[u8], begin: usize, table: &mut [Record]) -> Answer {
         )
     };
     a
+}
+
+/// A feed's number, lines and records.
+pub fn read_feed(feed: &[u8], answers: &mut [LineAnswer], table: &mut [Record]) -> (u32, usize, usize) {
+    let (mut lines, mut records) = (0, 0);
+    // Sound: as for a sheet. A LineAnswer is 16 bytes without padding, of which any values are a LineAnswer, and the answers are
+    // lent to us alone as the table is; the numbers are two of our own.
+    let number = unsafe {
+        lorukinde_read_feed(
+            feed.as_ptr(),
+            feed.len(),
+            answers.as_mut_ptr().cast::<u8>(),
+            std::mem::size_of_val(answers),
+            table.as_mut_ptr().cast::<u8>(),
+            std::mem::size_of_val(table),
+            &mut lines,
+            &mut records,
+        )
+    };
+    (number, lines, records)
 }
 
 /// Whether the note is a part of the sheet (else of the standing note), and from where to where.

@@ -11,7 +11,8 @@
 //! ```
 //!
 //! [`parts`] is what a job over many sheets wants: a slip loses its part and no other. [`read_sheet`] takes a sheet as a whole,
-//! and [`read_part`] a single part, both into a table that the caller lends and without allocating.
+//! and [`read_part`] a single part, both into a table that the caller lends and without allocating. [`read_feed`] takes many
+//! sheets at once, one a line.
 //! The records' words, in [`Entry`], and the refusals' numbers, in [`Refusal`], are those of `include/lorukinde.h`.
 #![warn(missing_debug_implementations)]
 #![deny(unsafe_code)]
@@ -19,6 +20,7 @@
 #[allow(unsafe_code)]
 mod calls;
 mod entry;
+mod feed;
 mod parts;
 mod reading;
 mod record;
@@ -31,6 +33,7 @@ pub use entry::{
     Date, Dates, Day, Entry, Event, Head, Holiday, HolidayKind, Meaning, Month, Months, Separator, Span, State, Steps, Time,
     ToWeekday, Weekday, Weekdays,
 };
+pub use feed::{read_feed, Feed, Line, LineAnswer, Lines};
 pub use parts::{parts, Part, Parts};
 pub use reading::{Reading, Rule, Rules};
 pub use record::Record;

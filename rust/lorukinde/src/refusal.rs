@@ -4,7 +4,8 @@ use std::fmt;
 
 /// A refusal: its number, and its place as bytes from the start of the sheet. For 4 to 9 that is the first byte of the item at
 /// fault (its year's, if it has one; a week's number's), for 3 and 12 how far its rule could be read, for 11 where the empty rule
-/// begins (after the blanks before it), for 13 the first quote of the comment, for 10 where the sheet or the part begins, for 1 and 2 it is 0.
+/// begins (after the blanks before it), for 13 the first quote of the comment, for 10 where the sheet or the part begins, for 1, 2
+/// and 14 it is 0.
 ///
 /// Its `Display` says in plain words what is wrong, for the one who wrote the sheet.
 #[derive(Clone, Copy, Debug, PartialEq, Eq, Hash)]
@@ -27,6 +28,7 @@ impl Refusal {
     pub const EMPTY_RULE: u32 = 11;
     pub const BROKEN_QUOTE: u32 = 12;
     pub const ILL_FORMED_COMMENT: u32 = 13;
+    pub const NO_ANSWER_ROOM: u32 = 14;
 }
 
 /// Where something stands, so that nobody has to ask whether bytes are counted from 0 or from 1.
@@ -70,6 +72,7 @@ impl fmt::Display for Refusal {
             Refusal::ILL_FORMED_COMMENT => {
                 write!(f, "the comment {at} has bytes that are no letters (it is not well-formed UTF-8)")
             }
+            Refusal::NO_ANSWER_ROOM => write!(f, "the feed has more lines than there is room for answers"),
             other => write!(f, "what stands {at} is refused with the number {other}, which this version has no words for"),
         }
     }

@@ -1,7 +1,7 @@
 //! The calls at their edges: lengths, places, tables, notes; and what a refusal says.
 mod common;
 use common::{at, mark, marked, words};
-use lorukinde::{note, parts, read_part, read_sheet, Head, Meaning, Record, Refusal, Separator, State};
+use lorukinde::{note, parts, read_feed, read_part, read_sheet, Head, LineAnswer, Meaning, Record, Refusal, Separator, State};
 
 fn refusal(number: u32, place: usize) -> Refusal {
     Refusal { number, place }
@@ -178,10 +178,41 @@ fn items_know_their_places() {
 }
 
 #[test]
+fn feeds() {
+    let unused = LineAnswer::from_words([7; 4]);
+    let feed = b"Mo;Tu\nx\n2020 Dec 25-05 off \"c\"\n";
+    let (mut answers, mut table) = ([unused; 5], marked(7));
+    let read = read_feed(feed, &mut answers, &mut table).unwrap();
+    let lines: Vec<_> = read.lines().collect();
+    assert_eq!(lines.iter().map(|line| line.range.clone()).collect::<Vec<_>>(), [0..5, 6..7, 8..30]);
+    assert_eq!(lines[1].reading, Err(refusal(Refusal::NO_SHAPE, 0)));
+    let said: Vec<_> = lines[2].reading.as_ref().unwrap().rules().map(|rule| rule.to_string()).collect();
+    assert_eq!(said, ["closed: 25 December 2020 to 5 January 2021, note \"c\""]);
+    assert_eq!((read.answers().len(), read.records().len()), (3, 6));
+    assert_eq!(read.answers()[2], LineAnswer::from_words([0, 0, 2, 0]));
+    assert!(answers[3..].iter().all(|answer| *answer == unused) && table[6] == mark());
+
+    // A line that does not fit uses no room, and the next is tried.
+    let (mut answers, mut table) = ([unused; 3], marked(3));
+    let read = read_feed(feed, &mut answers, &mut table).unwrap();
+    let refused: Vec<_> = read.lines().map(|line| line.reading.err().map(|refusal| refusal.number)).collect();
+    assert_eq!(refused, [Some(Refusal::NO_ROOM), Some(Refusal::NO_SHAPE), None]);
+    assert_eq!(table[2], mark());
+
+    let (mut answers, mut table) = ([unused; 2], marked(7));
+    assert_eq!(read_feed(feed, &mut answers, &mut table), Err(refusal(Refusal::NO_ANSWER_ROOM, 0)));
+    assert_eq!((answers, table), ([unused; 2], marked(7)));
+    assert_eq!(read_feed(b"", &mut [], &mut []).unwrap().lines().count(), 0);
+    assert_eq!(read_feed(b"\n", &mut [unused], &mut []).unwrap().lines().count(), 1);
+    assert_eq!(std::mem::size_of::<LineAnswer>(), 16);
+}
+
+#[test]
 fn refusals_in_plain_words() {
-    let said: Vec<String> = (1..=13).map(|number| refusal(number, 12).to_string()).collect();
+    let said: Vec<String> = (1..=14).map(|number| refusal(number, 12).to_string()).collect();
     for (i, text) in said.iter().enumerate() {
-        let has_no_place = [Refusal::TOO_LONG, Refusal::NO_PART, Refusal::NO_ROOM].contains(&(i as u32 + 1));
+        let without_place = [Refusal::TOO_LONG, Refusal::NO_PART, Refusal::NO_ROOM, Refusal::NO_ANSWER_ROOM];
+        let has_no_place = without_place.contains(&(i as u32 + 1));
         assert_eq!(text.contains("12 bytes into the sheet"), !has_no_place, "{text}");
         assert_eq!(text.contains("the item 12 bytes into"), (4..=9).contains(&(i + 1)), "{text}");
         assert!(!said[..i].contains(text), "{text}");

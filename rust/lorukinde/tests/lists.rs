@@ -1,23 +1,23 @@
 //! Long lists of sheets with fixed answers, and what parts and sheets owe each other on random ones.
 mod common;
-use common::{lines_of, part_lines, place_line, sheet_lines};
+use common::{feed_lines, lines_of, part_lines, place_line, sheet_lines};
 use lorukinde::{note, parts, read_part, read_sheet, Head, Meaning, Record, Refusal, Separator, State};
 
-/// The cases of crates/cases with the answers of the repository's second reader. A case: four digits for the words of the table,
-/// a letter, a blank or digit, a sheet. S is the sheet, P its parts and their places, A both, L both without the places,
-/// X two sheets that differ in one part, N notes. The expected answers repeat each case before its answer.
-#[test]
-fn the_repositorys_cases() {
-    let cases = lines_of("crates/cases/stdin").unwrap();
-    let mut expected = lines_of("crates/cases/stdout").unwrap().into_iter();
+/// Cases with the answers of the repository's second reader, which repeat each case before its answer. A case: four digits for the
+/// words of the table, a letter, a blank or digit, a sheet. S is the sheet, P its parts and their places, A both, L both without the
+/// places, X two sheets that differ in one part, N notes; F a feed, byte 9 for byte 10, after four digits for the words of the answer
+/// table.
+fn replay(cases: &str, answers: &str) -> usize {
+    let cases = lines_of(cases).unwrap();
+    let mut expected = lines_of(answers).unwrap().into_iter();
     for case in &cases {
-        let digits: String = case[..4].iter().map(|byte| char::from(*byte)).collect();
-        let room = digits.parse::<usize>().unwrap() / 16;
+        let room = number_of(&case[..4]) / 16;
         let (mode, sheet) = (case[4], &case[6..]);
         let mut lines = vec![case.clone()];
         match mode {
             b'X' => lines.push(exchange_line(sheet, usize::from(case[5] - b'0'), room)),
             b'N' => lines.extend(note_lines(sheet)),
+            b'F' => lines.extend(feed_case_lines(sheet, room)),
             _ => {
                 if b"SAL".contains(&mode) {
                     lines.extend(sheet_lines(sheet, room));
@@ -34,8 +34,28 @@ fn the_repositorys_cases() {
         assert_eq!(lines, expected, "{}", String::from_utf8_lossy(case));
     }
     assert_eq!(expected.next(), None);
-    assert!(cases.len() > 3000);
     println!("{} cases", cases.len());
+    cases.len()
+}
+
+#[test]
+fn the_repositorys_cases() {
+    assert!(replay("crates/cases/stdin", "crates/cases/stdout") > 3000);
+}
+
+#[test]
+fn the_cases_of_feeds() {
+    assert!(replay("tools/cases_ask2.txt", "tools/cases_ask2.out") > 500);
+}
+
+fn feed_case_lines(case: &[u8], room: usize) -> Vec<Vec<u8>> {
+    let feed: Vec<u8> = case[4..].iter().map(|byte| if *byte == b'\t' { b'\n' } else { *byte }).collect();
+    feed_lines(&feed, number_of(&case[..4]), 16 * room)
+}
+
+/// A number of decimal digits.
+fn number_of(digits: &[u8]) -> usize {
+    digits.iter().fold(0, |n, digit| 10 * n + usize::from(digit - b'0'))
 }
 
 /// For some starts and lengths the note, and a bar behind it; one line for each start.

@@ -1,6 +1,6 @@
 //! The cases of document 04: which number a refusal has, where it stands, and which words an item has.
 mod common;
-use common::{bytes_of, lines_of, one_part, sheet_lines};
+use common::{bytes_of, feed_lines, lines_of, one_part, sheet_lines};
 
 /// tools/readings_04.txt: section, Ask and call, sheet, answer, parted by byte 9. The first line says how it was made.
 #[test]
@@ -14,6 +14,7 @@ fn the_documents_cases() {
             [_] => sheet_lines(&sheet, 512).swap_remove(0),
             [_, "words"] => items(sheet_lines(&sheet, 512)),
             [_, "part", begin] => one_part(&sheet, begin.parse().unwrap(), 512).0.swap_remove(0),
+            [_, "feed", answers, words] => feed_answers(feed_lines(&sheet, answers.parse().unwrap(), words.parse().unwrap())),
             _ => panic!("no such call: {line}"),
         };
         assert_eq!(String::from_utf8_lossy(&got), expected, "{line}");
@@ -24,4 +25,11 @@ fn the_documents_cases() {
 /// The records of an answer that are no heads, parted by ` / `.
 fn items(lines: Vec<Vec<u8>>) -> Vec<u8> {
     lines[1..].iter().filter(|record| !record.starts_with(b"1 ")).cloned().collect::<Vec<_>>().join(&b" / "[..])
+}
+
+/// A feed's numbers, a colon, its lines' answers parted by ` / `.
+fn feed_answers(lines: Vec<Vec<u8>>) -> Vec<u8> {
+    let count = lines.iter().skip(1).filter(|line| line.iter().filter(|byte| **byte == b' ').count() == 3).count();
+    let answers = lines[1..1 + count].join(&b" / "[..]);
+    [&lines[0][..], b":", if answers.is_empty() { b"" } else { b" " }, &answers].concat()
 }

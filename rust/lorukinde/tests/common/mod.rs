@@ -1,6 +1,6 @@
 //! What the tests share: a table with marked bytes, and answers as the programs of the repository write them.
 #![allow(dead_code)] // each test file takes what it needs
-use lorukinde::{read_part, read_sheet, Reading, Record, Refusal};
+use lorukinde::{read_feed, read_part, read_sheet, LineAnswer, Reading, Record, Refusal};
 
 /// Words that no reading writes, to see what a reading has left alone.
 pub fn mark() -> Record {
@@ -92,6 +92,26 @@ pub fn place_line(sheet: &[u8], room: usize) -> Vec<u8> {
     };
     let places = (0..sheet.len() + 2).filter(&mut begins).map(|at| format!(" {at}"));
     format!("B{}", places.collect::<String>()).into_bytes()
+}
+
+/// A feed's answer as lines: number, lines and records, each line's four numbers, each record. Tables of so many words; those that a
+/// whole group does not hold are left out.
+pub fn feed_lines(feed: &[u8], answer_words: usize, words: usize) -> Vec<Vec<u8>> {
+    let unused = LineAnswer::from_words([0x5a5a_5a5a; 4]);
+    let (mut answers, mut table) = (vec![unused; answer_words / 4], marked(words / 16));
+    let (lines, used) = match read_feed(feed, &mut answers, &mut table) {
+        Err(refusal) => (vec![numbers([refusal.number.into(), 0, 0])], (0, 0)),
+        Ok(read) => {
+            let used = (read.answers().len(), read.records().len());
+            let mut lines = vec![numbers([0, used.0 as i64, used.1 as i64])];
+            lines.extend(read.lines().map(|line| numbers(four(&line.reading))));
+            lines.extend(read.lines().flat_map(|line| record_lines(&line.reading)));
+            (lines, used)
+        }
+    };
+    assert!(answers[used.0..].iter().all(|answer| *answer == unused), "{:?}", String::from_utf8_lossy(feed));
+    hold_rest(&table, used.1, feed);
+    lines
 }
 
 /// A file of the repository, its lines.
