@@ -27,7 +27,8 @@ extern "C" {
  *   5 weeks     first, last, step
  *   6 weekdays  first, last (Mo 1 to Su 7), day offset, flags from start, from end; bit n-1 for n
  *   7 holiday   1 public, 2 school; day offset
- *   8 span      start kind, start, end kind, end, repeat in minutes or -1, open end 0/1
+ *   8 span      start kind, start, end kind, end, repeat in minutes or -1, open end 0/1, point in time 0/1 (1 in edition 2 alone:
+ *               a time alone, whose end is its start)
  *
  * Places count from the sheet's first byte; so does a comment's start, which is inside the quote. A comment is well-formed
  * UTF-8. */
@@ -46,13 +47,14 @@ enum {
     LORUKINDE_WEEK_STEP = 5,      /* week step above 255; the item's first byte */
     LORUKINDE_YEARS_INVERTED = 6, /* years inverted; the item's first byte */
     LORUKINDE_WEEKS_INVERTED = 7, /* weeks inverted; the item's first byte */
-    LORUKINDE_POINT_IN_TIME = 8,  /* point in time; the item's first byte */
+    LORUKINDE_POINT_IN_TIME = 8,  /* point in time, in edition 1 alone; the item's first byte */
     LORUKINDE_EASTER_DAY = 9,     /* bare day after easter; the item's first byte */
     LORUKINDE_NO_ROOM = 10,       /* all else good, more records than whole 64-byte groups in the table; the text's first byte */
     LORUKINDE_EMPTY_RULE = 11,    /* no shape fits: an empty rule; where it begins */
     LORUKINDE_BROKEN_QUOTE = 12,  /* no shape fits: a quote, and after it another one or none at all; read so far */
     LORUKINDE_ILL_FORMED_COMMENT = 13, /* a comment that is not well-formed UTF-8 (RFC 3629); its first quote */
-    LORUKINDE_NO_ANSWER_ROOM = 14 /* of a feed alone: more lines than whole 16-byte groups in the answer table */
+    LORUKINDE_NO_ANSWER_ROOM = 14, /* of a feed alone: more lines than whole 16-byte groups in the answer table */
+    LORUKINDE_UNKNOWN_EDITION = 19 /* the edition is neither 1 nor 2; 0 */
 };
 
 /* Reads a sheet. The number is returned; place, records and warnings are stored.
@@ -70,6 +72,16 @@ uint32_t lorukinde_read_sheet(const uint8_t *sheet, size_t sheet_len, uint8_t *t
  * Every refusal gives 0 records and 0 warnings and changes no byte of the table; 1 and 2 give next 0, last; the others the true next. */
 uint32_t lorukinde_read_part(const uint8_t *sheet, size_t sheet_len, size_t begin, uint8_t *table, size_t table_len,
                              uint32_t *place, uint32_t *records, uint32_t *warnings, uint32_t *next, uint32_t *last);
+
+/* The same by an edition of the sheet rules, 1 or 2; the calls without one read by edition 1. Edition 2 accepts besides a time
+ * alone, marks after a range of weekdays (`Mo-Fr[1]`), and a day offset after any weekday item (`Mo +1 day`), and never returns 8.
+ * What edition 1 accepts, edition 2 accepts with the same records and warnings. Another edition is refused 19, before 1, with
+ * place 0, 0 records, 0 warnings, next 0, last. */
+uint32_t lorukinde_read_sheet_in(uint32_t edition, const uint8_t *sheet, size_t sheet_len, uint8_t *table, size_t table_len,
+                                 uint32_t *place, uint32_t *records, uint32_t *warnings);
+uint32_t lorukinde_read_part_in(uint32_t edition, const uint8_t *sheet, size_t sheet_len, size_t begin, uint8_t *table,
+                                size_t table_len, uint32_t *place, uint32_t *records, uint32_t *warnings, uint32_t *next,
+                                uint32_t *last);
 
 /* Reads a feed: sheets, one a line, parted by byte 10, inside quotes too. A final byte 10 starts no line; an empty feed has none.
  * The number is returned, 0 or 14; how many lines and how many records there are is stored.

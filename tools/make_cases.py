@@ -9,6 +9,8 @@ and the cases of calls that crates/cases does not make, which the Rust tests rep
 
     python3 tools/make_cases.py ask2 > tools/cases_ask2.txt                         feeds
     python3 tools/reference.py cases tools/cases_ask2.txt > tools/cases_ask2.out
+    python3 tools/make_cases.py ask9 > tools/cases_ask9.txt                         editions
+    python3 tools/reference.py cases tools/cases_ask9.txt > tools/cases_ask9.out
 
 documents.txt has the sheets of the rules and of their readings, readings_04.txt those of document 04 (its form: check_documents.py), specification.txt examples of the OpenStreetMap wiki's pages on opening hours, as far as they are remembered, sample.txt sheets whose answers are
 the Rust's own (tools/oracle/README.md).
@@ -270,6 +272,34 @@ def feeds():
     return out
 
 
+# ---- edition 2
+POINTS = ["10:00", "0:00", "24:00", "24:01", "10:60", "dawn", "Sunset", "(dusk+1:30)", "(sunrise-24:00)", "(sunrise-24:01)", "10:00,12:00", "10:00,sunset+,11:00-12:00,dusk", "10:00/30", "10:00+", "10:00-10:00", "10:00-", "10:00-x", "10:00 - 12:00", "10:00:00", "10:000",
+          "Mo 10:00", "Jan: 10:00", "Jan 10:00", "2020 Jan 5 sunset", '"c": 10:00', "week 3 dawn off", '10:00 "c"', '10:00"c"', "10:00x", "10:00,", "10:00, 11:00", '10:00 "', "10:00;dusk||DAWN", "Jan 1:10:00-12:00", "Jan 1:0", "(dawn)", "(dawn+1:00", "easter-05 10:00"]
+WEEKDAYS = ["Mo-Fr[1]", "Mo-Fr[1,3-5,-1]", "Mo-Fr[3-1]", "Mo-Fr[6]", "Mo-Fr[1", "Mo-Fr[1,x]", "Mo-Fr[-1-2]", "Mo[-1-2]", "Mo[1]-Fr", "Mo[1][2]", "Su-Mo[5]", "Mo +1 day", "Mo -32767 days", "Mo +32768 days", "Mo +0 days", "Mo +1 dayx", "Mo +1", "Mo  +1  day", "Mo+1 day", "Mo-Fr +1 day",
+            "Mo-Fr -2 days", "Mo-Fr[2] +3 days", "Mo-Fr[2]+3 days", "Mo[1] +1 day", "Mo +1 day,Tu-We[-1],PH -1 day", "PH,Mo -1 day", "PH -1 day,Tu-We[2] +1 day,SH", "Mo +1 day 10:00-12:00", "Mo-Tu[1] -1 day 10:00", "Jan Mo +1 day", "Jan Mo[1] +1 day", "Jan Mo-Tu[1]", "Jan Mo[1]-Tu", "Jan Mo-Tu +1 day",
+            "2020: mo-FR[1] off", '"c": Mo +1 day "d"', "Mo +1 day;Tu-We[1]", "Mo +1 day, Tu +1 day", "Mo +1 day +1 day", "Mo +1 day-Fr", "Mo +1 day[1]", "Mo-Su-Mo", "Su-Sunset", "Mo-week[1]"]
+
+
+def new_in_2():
+    return [line(s) for s in POINTS + WEEKDAYS]
+
+
+def edition_2():
+    """each known sheet, and those that the edition adds, in edition 2; editions that there are not; exchanged parts"""
+    out = [line(s, "A", part="2") for s in POINTS + WEEKDAYS]
+    out += [line(s, "A", part="1") for s in POINTS + WEEKDAYS]
+    out += [line(s, "A", part="2") for s in sheets_04()]
+    out += [line(s, "S", part="2") for s in known("documents.txt") + known("specification.txt")]
+    more = ["10:00", "dusk", "Mo-Th[1,-1]", "Sa +1 day"]
+    out += [line(a + j + b, "S", part="2") for j in [*JOINTS, "; "] for a in PIECES + more for b in PIECES + more if a in more or b in more]
+    out += [line(s, "A", part=e) for e in "0123489" for s in ("", "Mo", "10:00", "Mo;x;Tu", '"\\xff"')]
+    out += [line(b" " * 4097, "L", part=e) for e in "0123"] + [line(b'"' + b"c" * 4094 + b'"', "L", part="2")]
+    out += [line(s, "A", w, "2") for s in ("10:00", "10:00;Mo +1 day", "10:00,11:00;x") for w in (0, 15, 16, 31, 32, 47, 48, 63, 64)]
+    for one, parts in [("10:00;%s;Tu-We[1]", ("x", "10:00", '"\\xff;"', "Mo +1 day")), ('%s;Mo -1 day "a";x', ("dawn,dusk", "", '"b"'))]:
+        out += [line(one % a + "\\x09" + one % b, "Y", 80, "0" if one.startswith("%") else "1") for a in parts for b in parts if a != b]
+    return out
+
+
 # ---- the Rust's own answers
 def sample():
     """the sheets of the sample; its first line says how it was made"""
@@ -280,9 +310,9 @@ ORIGINS = {
     "documents": lambda: sheets_of("documents.txt"), "readings": readings_04, "specification": lambda: sheets_of("specification.txt"),
     "transitions": transitions, "joints": joints, "order of pieces": triples, "ranges": ranges, "orders": orders, "bare days": bare_days, "marks": marks, "names": names, "refusals": refusals, "slips": slips, "items' places": item_places,
     "tables": tables, "blanks": blanks, "odd bytes": odd_bytes, "letters": letters, "quotes": quotes, "long sheets": long_sheets, "exchanges": exchanges, "notes": notes,
-    "the Rust's answers": sample,
+    "edition 2's shapes": new_in_2, "the Rust's answers": sample,
 }
-OF_OTHER_CALLS = {"ask2": feeds}
+OF_OTHER_CALLS = {"ask2": feeds, "ask9": edition_2}
 
 
 def main():

@@ -68,7 +68,9 @@ SHAPES = {
     8: [time(b"s"), time(b"s") + rb"(?P<open>\+)", time(b"s") + rb"-" + time(b"t"), time(b"s") + rb"-" + time(b"t") + rb"(?P<plus>\+)",
         time(b"s") + rb"-" + time(b"t") + rb"/(?P<rm>" + mm + rb")", time(b"s") + rb"-" + time(b"t") + rb"/(?P<rh>" + hmm + rb")"],
 }
-SHAPES = {k: [re.compile(p) for p in ps] for k, ps in SHAPES.items()}
+# edition 2: marks after a range too, a day offset after any weekday
+SHAPES_2 = SHAPES | {6: [rb"(?P<a>" + wd + rb")(?:-(?P<b>" + wd + rb"))?+(?:\[(?P<es>" + entry + rb"(?:," + entry + rb")*+)\])?+(?:" + day_offset(b"o") + rb")?+"]}
+EDITIONS = {n: {k: [re.compile(p) for p in ps] for k, ps in shapes.items()} for n, shapes in [(1, SHAPES), (2, SHAPES_2)]}
 
 
 class Refused(Exception):
@@ -153,7 +155,7 @@ def time_of(g, tag, end):
 
 
 def meaning(kind, g):
-    """the words of a shape's record; raises Refused. Every range (4) is looked at before 5 to 9."""
+    """the words of a shape's record; raises Refused. Every range (4) is looked at before 5 to 9. A time alone is a point (word 7), which `item` judges."""
     if kind in (2, 5):
         lo, hi = (1900, 9999) if kind == 2 else (1, 53)
         a = int(g["a"])
@@ -201,8 +203,7 @@ def meaning(kind, g):
         return [7, 1 if g["h"] == b"PH" else 2, days_of(g, "o")]
     start = time_of(g, "s", False)
     if not any(g.get("t_" + x) for x in "cev"):
-        need(8, bool(g.get("open")))
-        return [8] + start + [0, 1440, -1, 1]
+        return [8] + start + ([0, 1440, -1, 1] if g.get("open") else start + [-1, 0, 1])
     end = time_of(g, "t", True)
     again = -1
     if g.get("rm"):
@@ -215,10 +216,10 @@ def meaning(kind, g):
     return [8] + start + end + [again, 1 if g.get("plus") else 0]
 
 
-def item(kind, s, i):
+def item(kind, s, i, edition=1):
     """(words, place after) of an item of this kind at place i, or None; raises Refused with its number and i. The last word is i."""
     best = None
-    for shape in SHAPES[kind]:
+    for shape in EDITIONS[edition][kind]:
         m = shape.match(s, i)
         if m and (best is None or m.end() > best.end()):
             best = m
@@ -226,9 +227,11 @@ def item(kind, s, i):
         return None
     try:
         words = meaning(kind, best.groupdict())
+        words += [0] * (15 - len(words)) + [i]
+        need(8, kind != 8 or edition == 2 or not words[7])
     except Refused as r:
         raise Refused(*r.args, i) from None
-    return words + [0] * (15 - len(words)) + [i], best.end()
+    return words, best.end()
 
 
 # ---- rules
@@ -275,12 +278,12 @@ def modifier(s, i):
     return STATE[m.group(1).lower()], 0, 0, m.end()
 
 
-def listed(kind, s, i, out):
+def listed(kind, s, i, out, edition):
     """the rest of a list of this kind after an item that ends at i"""
     kinds = {6: (6, 7), 7: (7, 6)}.get(kind, (kind,))
     while s[i:i + 1] == b"," and s[i + 1:i + 2] != b" ":
         for n, k in enumerate(kinds):
-            r = item(k, s, i + 1)
+            r = item(k, s, i + 1, edition)
             if r:
                 kinds = kinds[n:]
                 break
@@ -291,25 +294,25 @@ def listed(kind, s, i, out):
     return i
 
 
-def first_of(s, i, kinds, out):
+def first_of(s, i, kinds, out, edition):
     """a list of the first of these kinds that stands here: (kind, place after), or None"""
     for k in kinds:
         if k == 5:
             if s[i:i + 4] != b"week":
                 continue
             j = skip(s, i + 4)
-            r = item(5, s, j) if j > i + 4 else None
+            r = item(5, s, j, edition) if j > i + 4 else None
             if not r:
                 raise no_shape_after(s, i + 4)
         else:
-            r = item(k, s, i)
+            r = item(k, s, i, edition)
         if r:
             out.append(r[0])
-            return k, listed(k, s, r[1], out)
+            return k, listed(k, s, r[1], out, edition)
     return None
 
 
-def rule(s, i):
+def rule(s, i, edition):
     """(state, comment start, length, items, place after)"""
     out = []
     wide = (0, 0)
@@ -321,23 +324,23 @@ def rule(s, i):
         c = comment(s, i)
         if c and s[c.end():c.end() + 1] == b":":
             wide = (i + 1, len(c.group(1)))
-            more = colon(s, c.end(), out)
+            more = colon(s, c.end(), out, edition)
             i = more[1]
             more = (8,) if more[0] in (6, 7) else ()
         else:
-            got = first_of(s, i, (3, 2, 5, 6, 7, 8), out)
+            got = first_of(s, i, (3, 2, 5, 6, 7, 8), out, edition)
             if got is None:
                 m = modifier(s, i)
                 if m is None:
                     raise NoShape(i)
                 return m[0], m[1], m[2], out, m[3]
-            more, i = following(s, got, out)
+            more, i = following(s, got, out, edition)
     while more:
         j = skip(s, i)
-        got = first_of(s, j, more, out) if j > i else None
+        got = first_of(s, j, more, out, edition) if j > i else None
         if got is None:
             break
-        more, i = following(s, got, out)
+        more, i = following(s, got, out, edition)
     j = skip(s, i)
     m = modifier(s, j) if j > i else None
     if m:
@@ -347,20 +350,20 @@ def rule(s, i):
     return state + (out, i)
 
 
-def colon(s, i, out):
+def colon(s, i, out, edition):
     """after `:` a blank and a small part have to stand"""
     j = skip(s, i + 1)
-    got = first_of(s, j, SMALL, out) if j > i + 1 else None
+    got = first_of(s, j, SMALL, out, edition) if j > i + 1 else None
     if got is None:
         raise no_shape_after(s, i + 1)
     return got
 
 
-def following(s, got, out):
+def following(s, got, out, edition):
     """the kinds that may stand after a blank after this list, and the place"""
     kind, i = got
     if kind in WIDE and s[i:i + 1] == b":":
-        kind, i = colon(s, i, out)
+        kind, i = colon(s, i, out, edition)
     return {2: (3, 5, 6, 7, 8), 3: (5, 6, 7, 8), 5: (6, 7, 8), 6: (8,), 7: (8,), 8: ()}[kind], i
 
 
@@ -378,13 +381,13 @@ def no_shape(s, rule, i):
     return 3
 
 
-def rules_of(s):
+def rules_of(s, edition):
     """the records of all rules of a text; raises Refused with its number and place"""
     records, i, separator = [], 0, 0
     while True:
         place = i = skip(s, i)
         try:
-            state, start, length, items, i = rule(s, i)
+            state, start, length, items, i = rule(s, i, edition)
             records += [[1, separator, state, start, length, len(items)] + [0] * 9 + [place]] + items
             i = skip(s, i)
             if i == len(s):
@@ -397,12 +400,14 @@ def rules_of(s):
         separator, i = SEPARATORS[m.group()], m.end()
 
 
-def sheet(s, room=512):
+def sheet(s, room=512, edition=1):
     """(number, place, records): the records of a text, or its refusal"""
+    if edition not in EDITIONS:
+        return 19, 0, []
     if len(s) > 4096:
         return 1, 0, []
     try:
-        records = rules_of(s)
+        records = rules_of(s, edition)
     except Refused as r:
         return *r.args, []
     return (10, 0, []) if len(records) > room else (0, 0, records)
@@ -428,9 +433,9 @@ def line_of(words):
     return " ".join(str(int(w)) for w in words)
 
 
-def read_sheet(s, words):
+def read_sheet(s, words, edition=1):
     """(number, place, records, warnings) with a table of so many words"""
-    number, place, records = sheet(s, words // 16)
+    number, place, records = sheet(s, words // 16, edition)
     return number, place, records, warnings(s) if number == 0 else 0
 
 
@@ -455,24 +460,24 @@ def moved(record, d):
     return record[:3] + start + record[4:15] + [record[15] + d]
 
 
-def read_part(s, place, words):
+def read_part(s, place, words, edition=1):
     """(number, place, records, warnings, next, last): the part's text read alone, its places counted from the sheet's start"""
-    if len(s) > 4096:
-        return 1, 0, [], 0, 0, True
+    if edition not in EDITIONS or len(s) > 4096:
+        return *read_sheet(s, words, edition), 0, True
     ends = dict(parts(s))
     if place not in ends:
         return 2, 0, [], 0, 0, True
     end = ends[place]
-    number, at, records, warned = read_sheet(s[place:end], words)
+    number, at, records, warned = read_sheet(s[place:end], words, edition)
     last = end == len(s)
     return number, at + place if number else 0, [moved(r, place) for r in records], warned, 0 if last else end + 1, last
 
 
-def chain(s, words):
+def chain(s, words, edition=1):
     """each part's reading, from place 0 on by `next`"""
     place, out = 0, []
     while True:
-        out.append((place, read_part(s, place, words)))
+        out.append((place, read_part(s, place, words, edition)))
         if out[-1][1][5]:
             return out
         place = out[-1][1][4]
@@ -504,17 +509,17 @@ def shown(reading):
     return [line_of(reading[:2] + (len(reading[2]),) + reading[3:])] + [line_of(r) for r in reading[2]]
 
 
-def sheet_lines(s, words):
-    return shown(read_sheet(s, words))
+def sheet_lines(s, words, edition=1):
+    return shown(read_sheet(s, words, edition))
 
 
-def part_lines(s, words):
-    return [line for _, r in chain(s, words) for line in shown(r)]
+def part_lines(s, words, edition=1):
+    return [line for _, r in chain(s, words, edition) for line in shown(r)]
 
 
-def place_lines(s, words):
+def place_lines(s, words, edition=1):
     """the places, from 0 to one after the end, where a part begins"""
-    return [" ".join(["B"] + [str(p) for p in range(len(s) + 2) if read_part(s, p, words)[0] != 2])]
+    return [" ".join(["B"] + [str(p) for p in range(len(s) + 2) if read_part(s, p, words, edition)[0] != 2])]
 
 
 def still(s, p, r, t, q, w):
@@ -527,9 +532,9 @@ def still(s, p, r, t, q, w):
     return rest(p, r) == rest(q, w) and comments(s, r) == comments(t, w)
 
 
-def exchange_lines(s, t, k, words):
+def exchange_lines(s, t, k, words, edition=1):
     """a sheet and the same with its part k exchanged: how many of the other parts are read as before, and how many are not"""
-    same = [still(s, p, r, t, q, w) for i, ((p, r), (q, w)) in enumerate(zip(chain(s, words), chain(t, words))) if i != k]
+    same = [still(s, p, r, t, q, w) for i, ((p, r), (q, w)) in enumerate(zip(chain(s, words, edition), chain(t, words, edition))) if i != k]
     return [f"X {same.count(True)} {same.count(False)}"]
 
 
@@ -552,25 +557,26 @@ def note_lines(s):
 
 
 def case(raw):
-    """A case: four digits for the words of the table; a letter; a blank (after X, the number of the exchanged part); the sheet.
+    """A case: four digits for the words of the table; a letter; a byte more; the sheet. For S, P, A and L the byte more is a blank, or the edition as a digit
+    for the calls that take one; for X and Y it is the number of the exchanged part; else a blank.
     S the sheet. P its parts, and the places where they begin. A both. L, for a long sheet, both without the places.
-    X two sheets with byte 9 between them, of which one part differs. N the notes for some starts and lengths.
+    X two sheets with byte 9 between them, of which one part differs; Y the same in edition 2. N the notes for some starts and lengths.
     F four digits for the words of the answer table, and a feed, in which byte 9 stands for byte 10."""
-    words, mode, s = int(raw[:4]), raw[4:5], raw[6:]
-    if mode == b"X":
+    words, mode, more, s = int(raw[:4]), raw[4:5], raw[5:6], raw[6:]
+    if mode in b"XY":
         one, other = s.split(b"\t")
-        return exchange_lines(one, other, int(raw[5:6]), words)
+        return exchange_lines(one, other, int(more), words, 1 if mode == b"X" else 2)
     if mode == b"N":
         return note_lines(s)
     if mode == b"F":
         return feed_answer_lines(s[4:].replace(b"\t", b"\n"), int(s[:4]), words)
-    out = []
+    edition, out = 1 if more == b" " else int(more), []
     if mode in b"SAL":
-        out += sheet_lines(s, words)
+        out += sheet_lines(s, words, edition)
     if mode in b"PAL":
-        out += part_lines(s, words)
+        out += part_lines(s, words, edition)
     if mode in b"PA":
-        out += place_lines(s, words)
+        out += place_lines(s, words, edition)
     return out
 
 

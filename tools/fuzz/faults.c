@@ -1,4 +1,4 @@
-/* Faults planted round the entries, to show that the fuzzer finds them: FAULT=1 to 46 in the environment, 0 for none. Linked with
+/* Faults planted round the entries, to show that the fuzzer finds them: FAULT=1 to 54 in the environment, 0 for none. Linked with
  * -Wl,--wrap for each call (run.sh), so the library itself stays as it is. */
 #include <stdlib.h>
 #include <string.h>
@@ -7,6 +7,8 @@
 
 uint32_t __real_lorukinde_read_sheet(const uint8_t *, size_t, uint8_t *, size_t, uint32_t *, uint32_t *, uint32_t *);
 uint32_t __real_lorukinde_read_part(const uint8_t *, size_t, size_t, uint8_t *, size_t, uint32_t *, uint32_t *, uint32_t *, uint32_t *, uint32_t *);
+uint32_t __real_lorukinde_read_sheet_in(uint32_t, const uint8_t *, size_t, uint8_t *, size_t, uint32_t *, uint32_t *, uint32_t *);
+uint32_t __real_lorukinde_read_part_in(uint32_t, const uint8_t *, size_t, size_t, uint8_t *, size_t, uint32_t *, uint32_t *, uint32_t *, uint32_t *, uint32_t *);
 uint32_t __real_lorukinde_read_feed(const uint8_t *, size_t, uint8_t *, size_t, uint8_t *, size_t, size_t *, size_t *);
 uint32_t __real_lorukinde_note(size_t, size_t, int32_t, int32_t, size_t *, size_t *);
 
@@ -67,6 +69,32 @@ uint32_t __wrap_lorukinde_read_part(const uint8_t *sheet, size_t n, size_t begin
     case 24: last[1] = 0; break;
     case 36: if (used && table[60] >= begin) table[60] -= (uint8_t)begin; break; /* a head's place is the part's, not the sheet's */
     case 37: if (used > 64 && table[124] < 255) table[124]++; break;      /* an item's place is its second byte */
+    }
+    return number;
+}
+
+uint32_t __wrap_lorukinde_read_sheet_in(uint32_t edition, const uint8_t *sheet, size_t n, uint8_t *table, size_t bytes, uint32_t *place, uint32_t *records, uint32_t *warnings)
+{
+    switch (fault()) {
+    case 47: edition = edition == 3 ? 2 : edition; break;                 /* an edition that there is not, taken as 2 */
+    case 48: edition += edition == 0; break;                              /* no edition is taken as 1 */
+    case 49: edition = 2; break;                                          /* edition 2 in force for edition 1 */
+    case 50: edition &= 255; break;                                       /* only a byte of the edition is looked at */
+    }
+    uint32_t number = __real_lorukinde_read_sheet_in(edition, sheet, n, table, bytes, place, records, warnings);
+    switch (fault()) {
+    case 51: if (*records > 1 && table[64] == 8 && !memcmp(table + 68, table + 76, 8)) table[92] = 1; break; /* a span written out becomes a point */
+    case 52: if (*records > 1 && table[64] == 6 && table[68] != table[72]) memset(table + 76, 0, 4); break; /* a day offset after a range is lost */
+    case 53: if (number == 19 && n > LORUKINDE_SHEET_BYTES) number = 1; break; /* 1 before 19 */
+    }
+    return number;
+}
+
+uint32_t __wrap_lorukinde_read_part_in(uint32_t edition, const uint8_t *sheet, size_t n, size_t begin, uint8_t *table, size_t bytes, uint32_t *place, uint32_t *records, uint32_t *warnings, uint32_t *next, uint32_t *last)
+{
+    uint32_t number = __real_lorukinde_read_part_in(edition, sheet, n, begin, table, bytes, place, records, warnings, next, last);
+    switch (fault()) {
+    case 54: if (number == 19) *last = 0; break;
     }
     return number;
 }

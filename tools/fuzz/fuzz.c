@@ -128,8 +128,18 @@ struct answer {
     const uint8_t *table;
 };
 
-enum { ANSWERS = LORUKINDE_NO_ANSWER_ROOM + 1 };
-static uint64_t calls, sheet_numbers[ANSWERS], part_numbers[ANSWERS], feed_numbers[ANSWERS], notes[2], records_seen, warnings_seen;
+/* by which of the calls a sheet or a part is read */
+enum how { PLAIN, IN_EDITION_1, IN_EDITION_2, IN_NO_EDITION, HOWS };
+static const char *const how_named[HOWS] = {"", "_in, edition 1", "_in, edition 2", "_in, no edition"};
+
+static uint32_t edition_of(enum how how)
+{
+    static const uint32_t none[] = {0, 3, 4, 0x101, 0x102, 0x10001, UINT32_MAX};
+    return how == IN_EDITION_1 ? 1 : how == IN_EDITION_2 ? 2 : chance(50) ? none[below(7)] : 3 + (uint32_t)below(UINT32_MAX - 2);
+}
+
+enum { ANSWERS = LORUKINDE_UNKNOWN_EDITION + 1 };
+static uint64_t calls, sheet_numbers[HOWS][ANSWERS], part_numbers[HOWS][ANSWERS], feed_numbers[ANSWERS], notes[2], records_seen, warnings_seen;
 
 enum { PLACE = 15 }; /* the word of a record that says where its item begins */
 
@@ -188,8 +198,22 @@ static bool moment(int32_t kind, int32_t at, int32_t most)
     return kind == 0 ? within(at, 0, most) : within(kind, 1, 4) && within(at, -1440, 1440);
 }
 
+/* marks and offsets of a range of weekdays are edition 2's */
+static bool range_good(enum how how, const int32_t *w)
+{
+    bool every_week = w[3] == 0 && w[4] == 31 && w[5] == 31;
+    return how == IN_EDITION_2 || w[1] == w[2] || every_week;
+}
+
+/* so is a point in time, which ends where it starts */
+static bool point_good(enum how how, const int32_t *w)
+{
+    bool same_time = w[1] == w[3] && w[2] == w[4];
+    return w[7] == 0 || (how == IN_EDITION_2 && w[7] == 1 && same_time && w[5] == -1 && w[6] == 0);
+}
+
 /* an item's words lie in their ranges; those from `used` on are 0, but for the last */
-static bool item(const uint8_t *r)
+static bool item(enum how how, const uint8_t *r)
 {
     int32_t w[16], used = 0;
     for (int i = 0; i < 16; i++)
@@ -200,9 +224,9 @@ static bool item(const uint8_t *r)
     case 3: used = 4; good = year(w[1]) && w[1] < 10000 && within(w[2], 1, 12) && within(w[3], 1, 12); break;
     case 4: used = 15; good = date(r, 1) && date(r, 8) && w[2] < 10000; break;
     case 5: used = 4; good = within(w[1], 1, w[2]) && within(w[2], w[1], 53) && within(w[3], 0, w[2] - w[1] ? w[2] - w[1] : 1); break;
-    case 6: used = 6; good = within(w[1], 1, 7) && within(w[2], 1, 7) && within(w[3], -32767, 32767) && within(w[4], 0, 31) && within(w[5], 0, 31) && w[4] + w[5] > 0; break;
+    case 6: used = 6; good = within(w[1], 1, 7) && within(w[2], 1, 7) && within(w[3], -32767, 32767) && within(w[4], 0, 31) && within(w[5], 0, 31) && w[4] + w[5] > 0 && range_good(how, w); break;
     case 7: used = 3; good = within(w[1], 1, 2) && within(w[2], -32767, 32767); break;
-    case 8: used = 7; good = moment(w[1], w[2], 1440) && moment(w[3], w[4], 2880) && within(w[5], -1, 1439) && within(w[6], 0, 1); break;
+    case 8: used = 8; good = moment(w[1], w[2], 1440) && moment(w[3], w[4], 2880) && within(w[5], -1, 1439) && within(w[6], 0, 1) && point_good(how, w); break;
     }
     for (int i = used; i < PLACE; i++)
         good = good && w[i] == 0;
@@ -305,23 +329,32 @@ static bool place_good(uint32_t number, size_t place, const uint8_t *s, size_t b
 {
     switch (number) {
     case LORUKINDE_TOO_LONG:
-    case LORUKINDE_NO_PART: return place == 0;
+    case LORUKINDE_NO_PART:
+    case LORUKINDE_UNKNOWN_EDITION: return place == 0;
     case LORUKINDE_NO_ROOM: return place == begin;
     case LORUKINDE_NO_SHAPE:
     case LORUKINDE_EMPTY_RULE:
     case LORUKINDE_BROKEN_QUOTE: return (place == end || s[place] != ' ') && number == no_shape(s, begin, end, place);
     case LORUKINDE_ILL_FORMED_COMMENT: return ill_formed_comment(s, end, place);
-    default: return item_begins(s, begin, end, place);
+    case LORUKINDE_RANGE:
+    case LORUKINDE_WEEK_STEP:
+    case LORUKINDE_YEARS_INVERTED:
+    case LORUKINDE_WEEKS_INVERTED:
+    case LORUKINDE_POINT_IN_TIME:
+    case LORUKINDE_EASTER_DAY: return item_begins(s, begin, end, place);
+    default: return false;
     }
 }
 
 /* the answer for the text from `begin` to `end` of s */
-static void answer_good(const struct answer *a, const uint8_t *s, size_t begin, size_t end, size_t table_bytes)
+static void answer_good(enum how how, const struct answer *a, const uint8_t *s, size_t begin, size_t end, size_t table_bytes)
 {
     need(a->number < ANSWERS, "a number that there is not");
+    need((a->number == LORUKINDE_UNKNOWN_EDITION) == (how == IN_NO_EDITION), "19 is for an unknown edition");
+    need(a->number != LORUKINDE_POINT_IN_TIME || how != IN_EDITION_2, "8 is not given in edition 2");
     if (a->number) {
         need(a->records == 0 && a->warnings == 0, "a refusal with records or warnings");
-        need(a->place <= end && (a->place >= begin || a->number <= LORUKINDE_NO_PART), "a refusal's place is not in the text");
+        need(a->place >= begin && a->place <= end, "a refusal's place is not in the text");
         need(place_good(a->number, a->place, s, begin, end), "nothing at a refusal's place that can have its number");
         return;
     }
@@ -337,7 +370,7 @@ static void answer_good(const struct answer *a, const uint8_t *s, size_t begin, 
         uint32_t items = (uint32_t)word(r, 5);
         need(items < a->records - i, "item counts that do not add up");
         for (uint32_t k = 1; k <= items; k++, from = place + 1) {
-            need(item(r + 64 * k), "an item's words");
+            need(item(how, r + 64 * k), "an item's words");
             place = (size_t)(uint32_t)word(r + 64 * k, PLACE);
             need(place >= from && item_begins(s, begin, end, place), "an item's place");
         }
@@ -355,7 +388,7 @@ static const uint8_t *lend_sheet(const uint8_t *s, size_t n)
     return sheet_room.lend + o;
 }
 
-static struct answer read_sheet(const uint8_t *s, size_t n, size_t table_bytes)
+static struct answer read_sheet(enum how how, const uint8_t *s, size_t n, size_t table_bytes)
 {
     struct answer a = {0};
     const uint8_t *lent = lend_sheet(s, n);
@@ -363,21 +396,24 @@ static struct answer read_sheet(const uint8_t *s, size_t n, size_t table_bytes)
     uint32_t *p[3];
     for (int i = 0; i < 3; i++)
         p[i] = lend_number(&number_rooms[i], 4);
-    a.number = lorukinde_read_sheet(lent, n, table, table_bytes, p[0], p[1], p[2]);
+    if (how == PLAIN)
+        a.number = lorukinde_read_sheet(lent, n, table, table_bytes, p[0], p[1], p[2]);
+    else
+        a.number = lorukinde_read_sheet_in(edition_of(how), lent, n, table, table_bytes, p[0], p[1], p[2]);
     calls++;
     for (int i = 0; i < 3; i++)
         number_kept(&number_rooms[i], 4);
     a.place = *p[0], a.records = *p[1], a.warnings = *p[2], a.table = table;
     need(a.number != LORUKINDE_NO_PART, "a sheet's number");
-    need((a.number == 1) == (n > MOST), "1 is for over 4,096 bytes");
+    need((a.number == 1) == (n > MOST && how != IN_NO_EDITION), "1 is for over 4,096 bytes");
     table_kept(table_bytes, &a);
-    answer_good(&a, s, 0, n, table_bytes);
-    sheet_numbers[a.number]++;
+    answer_good(how, &a, s, 0, n, table_bytes);
+    sheet_numbers[how][a.number]++;
     return a;
 }
 
 /* the part at `begin`, which is to end at `end`; end is above n where no part begins there */
-static struct answer read_part(const uint8_t *s, size_t n, size_t begin, size_t end, size_t table_bytes)
+static struct answer read_part(enum how how, const uint8_t *s, size_t n, size_t begin, size_t end, size_t table_bytes)
 {
     struct answer a = {0};
     const uint8_t *lent = lend_sheet(s, n);
@@ -385,18 +421,21 @@ static struct answer read_part(const uint8_t *s, size_t n, size_t begin, size_t 
     uint32_t *p[NUMBERS];
     for (int i = 0; i < NUMBERS; i++)
         p[i] = lend_number(&number_rooms[i], 4);
-    a.number = lorukinde_read_part(lent, n, begin, table, table_bytes, p[0], p[1], p[2], p[3], p[4]);
+    if (how == PLAIN)
+        a.number = lorukinde_read_part(lent, n, begin, table, table_bytes, p[0], p[1], p[2], p[3], p[4]);
+    else
+        a.number = lorukinde_read_part_in(edition_of(how), lent, n, begin, table, table_bytes, p[0], p[1], p[2], p[3], p[4]);
     calls++;
     for (int i = 0; i < NUMBERS; i++)
         number_kept(&number_rooms[i], 4);
     a.place = *p[0], a.records = *p[1], a.warnings = *p[2], a.next = *p[3], a.last = *p[4], a.table = table;
-    need((a.number == 1) == (n > MOST), "1 is for over 4,096 bytes");
-    need((a.number == 2) == (n <= MOST && end > n), "2 is for a place where no part begins");
+    need((a.number == 1) == (n > MOST && how != IN_NO_EDITION), "1 is for over 4,096 bytes");
+    need((a.number == 2) == (n <= MOST && end > n && how != IN_NO_EDITION), "2 is for a place where no part begins");
     table_kept(table_bytes, &a);
-    bool none = a.number == 1 || a.number == 2;
-    answer_good(&a, s, none ? 0 : begin, none ? n : end, table_bytes);
+    bool none = a.number == LORUKINDE_TOO_LONG || a.number == LORUKINDE_NO_PART || a.number == LORUKINDE_UNKNOWN_EDITION;
+    answer_good(how, &a, s, none ? 0 : begin, none ? n : end, table_bytes);
     need(a.last <= 1 && (none || end == n ? a.last == 1 && a.next == 0 : a.last == 0 && a.next == end + 1), "next, last");
-    part_numbers[a.number]++;
+    part_numbers[how][a.number]++;
     return a;
 }
 
@@ -536,9 +575,10 @@ static void weekdays(void)
         return;
     }
     WEEKDAY();
-    if (chance(40)) {
+    bool range = chance(40);
+    if (range)
         put("-"), WEEKDAY();
-    } else if (chance(30)) {
+    if (chance(range ? 3 : 30)) { /* marks of a range are edition 2's */
         put("[");
         do {
             if (chance(30))
@@ -548,8 +588,10 @@ static void weekdays(void)
                 put("-"), number("%u", 1, 5);
         } while (chance(40) && (put(","), true));
         put("]");
-        if (chance(20))
+        if (chance(range ? 5 : 20))
             day_offset();
+    } else if (chance(3)) {
+        day_offset(); /* edition 2's too */
     }
 }
 
@@ -565,9 +607,17 @@ static void one_time(unsigned hours)
 
 static void times(void)
 {
+    size_t from = length;
     one_time(23);
-    if (chance(2))
+    size_t to = length;
+    if (chance(4))
         return; /* a point in time */
+    if (chance(4) && 2 * to - from < sizeof sheet) { /* a span that ends where it starts */
+        put("-");
+        memcpy(sheet + length, sheet + from, to - from);
+        length += to - from;
+        return;
+    }
     if (chance(15)) {
         put("+");
         return;
@@ -720,7 +770,7 @@ static size_t any_table(void)
     }
 }
 
-/* ---- a round: one sheet, by every call */
+/* ---- a round: one sheet, by the plain calls and by some others */
 /* bytes of a table that holds every text of n bytes: `Mo;Mo` has the most records for its length, two in three bytes */
 static size_t ample(size_t n)
 {
@@ -751,9 +801,9 @@ static bool same_numbers(const struct answer *a, const struct answer *b)
 }
 
 /* a reading with some other table: the same answer and records where they fit, else 10 */
-static void same_with(size_t table_bytes, const struct answer *full)
+static void same_with(enum how how, size_t table_bytes, const struct answer *full)
 {
-    struct answer a = read_sheet(sheet, length, table_bytes);
+    struct answer a = read_sheet(how, sheet, length, table_bytes);
     if (full->number == 0 && full->records > table_bytes / 64) {
         need(a.number == 10, "10 where the records do not fit");
         return;
@@ -763,9 +813,9 @@ static void same_with(size_t table_bytes, const struct answer *full)
 }
 
 /* a part read in its sheet is the part read alone, with its places moved */
-static void same_alone(size_t begin, size_t end, size_t table_bytes, const struct answer *in_sheet, const uint8_t *records)
+static void same_alone(enum how how, size_t begin, size_t end, size_t table_bytes, const struct answer *in_sheet, const uint8_t *records)
 {
-    struct answer a = read_sheet(sheet + begin, end - begin, table_bytes);
+    struct answer a = read_sheet(how, sheet + begin, end - begin, table_bytes);
     need(a.number == in_sheet->number && a.place + (a.number ? begin : 0) == in_sheet->place, "a part alone: number, place");
     need(a.records == in_sheet->records && a.warnings == in_sheet->warnings, "a part alone: records, warnings");
     for (size_t i = 0; i < a.records; i++)
@@ -777,65 +827,96 @@ static void same_alone(size_t begin, size_t end, size_t table_bytes, const struc
         }
 }
 
-static void round_of_sheets(void)
+/* the sheet with a table that holds everything, and with others; its records are then in `whole` */
+static struct answer by_tables(enum how how)
 {
-    static uint8_t kept[RECORDS * 64];
-    make_sheet();
-    struct answer full = read_sheet(sheet, length, ample(length));
+    struct answer full = read_sheet(how, sheet, length, ample(length));
     need(full.number != 10, "10 with a table that holds everything");
     memcpy(whole, full.table, 64 * (size_t)full.records);
     if (full.number == 0 && full.records > 1 && chance(50))
-        same_with(64 * (size_t)full.records - 1 - below(2) * 63, &full); /* just too small */
+        same_with(how, 64 * (size_t)full.records - 1 - below(2) * 63, &full); /* just too small */
     if (full.number == 0 && chance(50))
-        same_with(64 * (size_t)full.records + below(64), &full); /* just enough */
-    same_with(any_table(), &full);
+        same_with(how, 64 * (size_t)full.records + below(64), &full); /* just enough */
+    same_with(how, any_table(), &full);
+    return full;
+}
 
-    if (length > MOST) {
-        read_part(sheet, length, below(length + 2), length + 1, any_table());
-        return;
-    }
-    /* its parts, from 0 on by next */
-    size_t parts = cut(), used = 0, first_bad = parts, warnings = 0;
+/* the sheet's parts, from 0 on by next; they make the sheet */
+static void by_parts(enum how how, const struct answer *full, size_t parts)
+{
+    static uint8_t kept[RECORDS * 64];
+    size_t used = 0, first_bad = parts, warnings = 0;
     struct answer bad = {0};
     for (size_t k = 0, place = 0; k < parts; k++) {
         need(place == begins[k], "next does not go from part to part");
-        struct answer a = read_part(sheet, length, place, ends[k], ample(ends[k] - place));
+        struct answer a = read_part(how, sheet, length, place, ends[k], ample(ends[k] - place));
         need(a.number != 10, "10 with a table that holds everything");
         if (a.number && first_bad == parts)
             first_bad = k, bad = a;
-        if (a.number == 0 && full.number == 0) {
-            need(used + a.records <= full.records && !memcmp(a.table, whole + 64 * used, 64 * (size_t)a.records), "the parts' records, in order, are the sheet's");
+        if (a.number == 0 && full->number == 0) {
+            need(used + a.records <= full->records && !memcmp(a.table, whole + 64 * used, 64 * (size_t)a.records), "the parts' records, in order, are the sheet's");
             used += a.records, warnings += a.warnings;
         }
         place = a.next;
         if (chance(30) && (parts < 50 || chance(5))) {
             size_t table_bytes = chance(50) ? any_table() : ample(ends[k] - begins[k]);
-            struct answer b = read_part(sheet, length, begins[k], ends[k], table_bytes);
+            struct answer b = read_part(how, sheet, length, begins[k], ends[k], table_bytes);
             memcpy(kept, b.table, 64 * (size_t)b.records);
-            same_alone(begins[k], ends[k], table_bytes, &b, kept);
+            same_alone(how, begins[k], ends[k], table_bytes, &b, kept);
         }
     }
-    need((full.number == 0) == (first_bad == parts), "a sheet is accepted exactly when every part is");
-    if (full.number == 0)
-        need(used == full.records && warnings == full.warnings, "the parts' records and warnings are the sheet's");
+    need((full->number == 0) == (first_bad == parts), "a sheet is accepted exactly when every part is");
+    if (full->number == 0)
+        need(used == full->records && warnings == full->warnings, "the parts' records and warnings are the sheet's");
     else
-        need(full.number == bad.number && full.place == bad.place, "a sheet is refused as its first refused part is");
+        need(full->number == bad.number && full->place == bad.place, "a sheet is refused as its first refused part is");
+}
 
-    /* places of any kind */
+/* places of any kind */
+static void by_places(enum how how, size_t parts)
+{
     for (int i = 0; i < 2; i++) {
         size_t place = chance(10) ? (size_t)next64() >> below(64) : chance(10) ? length + below(3) : below(length + 1), end = length + 1;
         for (size_t k = 0; k < parts; k++)
             if (begins[k] == place)
                 end = ends[k];
-        read_part(sheet, length, place, end, any_table());
+        read_part(how, sheet, length, place, end, any_table());
     }
-    /* notes: of the records, and of any numbers */
-    if (full.number == 0)
+}
+
+/* the sheet and its parts, by one of the manners */
+static struct answer by_manner(enum how how)
+{
+    struct answer full = by_tables(how);
+    size_t parts = length > MOST || how == IN_NO_EDITION ? 0 : cut();
+    if (parts)
+        by_parts(how, &full, parts);
+    by_places(how, parts);
+    return full;
+}
+
+/* notes: of the records, and of any numbers */
+static void some_notes(const struct answer *full)
+{
+    if (full->number == 0)
         note(length, below(50), word(whole, 3), word(whole, 4));
     static const int32_t edge[] = {INT32_MIN, INT32_MIN + 1, -1, 0, 1, 2, 4095, 4096, 4097, INT32_MAX - 1, INT32_MAX};
     int32_t start = chance(30) ? edge[below(11)] : chance(20) ? (int32_t)next64() : (int32_t)below(length + 3);
     int32_t n = chance(30) ? edge[below(11)] : chance(20) ? (int32_t)next64() : (int32_t)below(length + 3);
     note(chance(5) ? (size_t)next64() >> below(64) : length, chance(5) ? (size_t)next64() >> below(64) : below(100), start, n);
+}
+
+static void round_of_sheets(void)
+{
+    static uint8_t plain_records[RECORDS * 64];
+    make_sheet();
+    struct answer plain = by_manner(PLAIN);
+    memcpy(plain_records, whole, 64 * (size_t)plain.records);
+    some_notes(&plain);
+    enum how how = PLAIN + 1 + (enum how)below(HOWS - 1);
+    struct answer other = by_manner(how);
+    if (how == IN_EDITION_1 || (how == IN_EDITION_2 && plain.number == 0))
+        need(same_numbers(&plain, &other) && !memcmp(whole, plain_records, 64 * (size_t)plain.records), "what edition 1 accepts, both editions read alike");
 }
 
 /* ---- feeds */
@@ -882,7 +963,7 @@ static void same_by_lines(const uint8_t *answers, const uint8_t *records, size_t
 {
     size_t used = 0;
     for (size_t i = 0, k = 0; i < feed_length; i += line_length(i) + 1, k++) {
-        struct answer a = line_answer(answers + LORUKINDE_ANSWER_BYTES * k), one = read_sheet(feed + i, line_length(i), table_bytes - 64 * used);
+        struct answer a = line_answer(answers + LORUKINDE_ANSWER_BYTES * k), one = read_sheet(PLAIN, feed + i, line_length(i), table_bytes - 64 * used);
         need(same_numbers(&a, &one), "a line's answer is not that of its sheet with the room left");
         need(used + one.records <= all && !memcmp(one.table, records + 64 * used, 64 * (size_t)one.records), "a line's records are not its sheet's");
         used += one.records;
@@ -938,7 +1019,8 @@ static void counts(const char *name, const uint64_t *numbers, size_t n)
         all += numbers[i];
     printf("%s: %llu calls;", name, (unsigned long long)all);
     for (size_t i = 0; i < n; i++)
-        printf(" %zu: %llu", i, (unsigned long long)numbers[i]);
+        if (numbers[i])
+            printf(" %zu: %llu", i, (unsigned long long)numbers[i]);
     printf("\n");
 }
 
@@ -964,8 +1046,13 @@ int main(int argc, char **argv)
     for (; calls < wanted; rounds++)
         chance(15) ? round_of_feeds() : round_of_sheets();
     printf("seed %s, each buffer's %s at an unreadable page: %llu sheets and feeds, %llu calls, nothing wrong\n", argv[1], argv[3], (unsigned long long)rounds, (unsigned long long)calls);
-    counts("read_sheet, by number", sheet_numbers, ANSWERS);
-    counts("read_part, by number", part_numbers, ANSWERS);
+    for (int how = 0; how < HOWS; how++) {
+        char name[64];
+        snprintf(name, sizeof name, "read_sheet%s, by number", how_named[how]);
+        counts(name, sheet_numbers[how], ANSWERS);
+        snprintf(name, sizeof name, "read_part%s, by number", how_named[how]);
+        counts(name, part_numbers[how], ANSWERS);
+    }
     counts("read_feed, by number", feed_numbers, ANSWERS);
     counts("note, out of the standing note (0) or the sheet (1)", notes, 2);
     printf("records looked at: %llu; warnings: %llu\n", (unsigned long long)records_seen, (unsigned long long)warnings_seen);

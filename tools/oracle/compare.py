@@ -7,7 +7,8 @@
 its records, 16 words a line. Every sheet counts as agreed, as agreed after a listed difference (docs/DIFFERENCES.md), or as unlisted; the last
 are printed, and then the exit code is 1. A listed difference is foretold from the sheet and our answer, and then the Rust's answer must be that.
 --digits takes oracle-digits, where only the builders judge numbers. --whole also holds our whole answer, with places, comment starts and what
-the Rust cannot be asked, to tools/reference.py, and says every difference. Each side reads all sheets in one process.
+the Rust cannot be asked, to tools/reference.py, and says every difference. Each side reads all sheets in one process. Edition 1 alone is compared: the
+Rust refuses a point in time, and the oracle's grammar has no marks after a range and no offset after a weekday without marks.
 """
 import argparse
 import collections

@@ -6,6 +6,8 @@ use mathlib.Core.Path.{refl}
 use native.Mathlib.Omega.{arith}
 use lib.Dec.{eqb}
 use Rattle.names.specs.Names.{weekday, holiday, day}
+use Rattle.names.specs.declared.Manner.{Manner}
+use Rattle.names.specs.declared.Manner.the-variants.{First, Second}
 use Rattle.names.proofs.Local.{free, pure-local, then-local, or-local, maybe-local}
 use Rattle.names.proofs.Cut.{byte-local, blank-local, count-local, ordinal-local}
 use Rattle.names.proofs.Chains.{many-local}
@@ -15,8 +17,8 @@ use Rattle.records.specs.declared.Item.the-variants.{Holidays}
 use Rattle.records.specs.declared.Meant.the-variants.{Is, Refused}
 use Rattle.records.proofs.Cut.{Alike, Refuses, refuses-if, item-alike}
 use Rattle.days.specs.Offsets.{plusOrMinus, dayOffset, noDays, anyDays, wdayOffset, offset, goodDays, daysOf}
-use Rattle.days.specs.Entries.{backEntry, frontEntry, entry, nextEntry, entries, bits}
-use Rattle.days.specs.Weekdays.{untilWeekday, withEntries, weekdayBehind, weekdayShape, weekdaysOf, flagged, weekdayMeaning, weekdayItem}
+use Rattle.days.specs.Entries.{backEntry, frontEntry, entry, nextEntry, noMarks, entries, bits}
+use Rattle.days.specs.Weekdays.{lastWeekday, bracketed, untilWeekday, withEntries, narrowBehind, wideBehind, weekdayBehind, weekdayShape, weekdaysOf, flagged, weekdayMeaning, weekdayItem}
 use Rattle.days.specs.Holidays.{holidayBehind, holidayShape, holidayMeaning, holidayItem}
 use Rattle.days.specs.declared.RawWeekdays.{RawWeekdays}
 use Rattle.days.specs.declared.RawHoliday.{RawHoliday}
@@ -64,23 +66,32 @@ module _ {u : List ℕ} where
   unfolding entries
   entries-alike = then-local entry-alike (λ e. then-local (many-local nextEntry-alike) (λ es. pure-local _))
 
+  pub lastWeekday-alike : Alike u 1 lastWeekday
+  unfolding lastWeekday
+  lastWeekday-alike = then-local (byte-local 45 refl refl) (λ _. free (name-local weekday))
+
+  pub bracketed-alike : Alike u 1 bracketed
+  unfolding bracketed
+  bracketed-alike =
+      then-local (byte-local 91 refl refl) (λ _. then-local (free entries-alike) (λ m.
+      then-local (free (byte-local 93 refl refl)) (λ _. pure-local m)))
+
   pub untilWeekday-alike : (first : ℕ) → Alike u 1 (untilWeekday first)
   unfolding untilWeekday
-  untilWeekday-alike first = then-local (byte-local 45 refl refl) (λ _. then-local (free (name-local weekday)) (λ last. pure-local _))
+  untilWeekday-alike first = then-local lastWeekday-alike (λ last. pure-local _)
 
   pub withEntries-alike : (first : ℕ) → Alike u 1 (withEntries first)
   unfolding withEntries
-  withEntries-alike first =
-      then-local (byte-local 91 refl refl) (λ _. then-local (free entries-alike) (λ m.
-      then-local (free (byte-local 93 refl refl)) (λ _. then-local anyDays-alike (λ d. pure-local _))))
+  withEntries-alike first = then-local bracketed-alike (λ m. then-local anyDays-alike (λ d. pure-local _))
 
-  pub weekdayBehind-alike : (first : ℕ) → Alike u 0 (weekdayBehind first)
-  unfolding weekdayBehind
-  weekdayBehind-alike first = or-local (free (untilWeekday-alike first)) (or-local (free (withEntries-alike first)) (pure-local _))
+  pub weekdayBehind-alike : (m : Manner) (first : ℕ) → Alike u 0 (weekdayBehind m first)
+  unfolding narrowBehind wideBehind
+  weekdayBehind-alike First first = or-local (free (untilWeekday-alike first)) (or-local (free (withEntries-alike first)) (pure-local _))
+  weekdayBehind-alike Second first = then-local (maybe-local lastWeekday-alike first) (λ last. then-local (maybe-local bracketed-alike noMarks) (λ m. then-local anyDays-alike (λ d. pure-local _)))
 
-  pub weekdayShape-alike : Alike u 1 weekdayShape
+  pub weekdayShape-alike : (m : Manner) → Alike u 1 (weekdayShape m)
   unfolding weekdayShape
-  weekdayShape-alike = then-local (name-local weekday) weekdayBehind-alike
+  weekdayShape-alike m = then-local (name-local weekday) (weekdayBehind-alike m)
 
   pub holidayBehind-alike : (kind : ℕ) → Alike u 0 (holidayBehind kind)
   unfolding holidayBehind
@@ -105,9 +116,9 @@ holiday-refuses r = refuses-if (not (goodDays r.days)) (Refused 4) (Is (Holidays
 
 -- the items
 module _ {u : List ℕ} where
-  pub weekdayItem-alike : Alike u 1 weekdayItem
+  pub weekdayItem-alike : (m : Manner) → Alike u 1 (weekdayItem m)
   unfolding weekdayItem
-  weekdayItem-alike = item-alike weekdayShape-alike weekdayMeaning weekday-refuses
+  weekdayItem-alike m = item-alike (weekdayShape-alike m) weekdayMeaning weekday-refuses
 
   pub holidayItem-alike : Alike u 1 holidayItem
   unfolding holidayItem

@@ -1,5 +1,6 @@
 -- What an answer of the code says, in the definitions' terms.
 use mathlib.Core.Bool.{Bool}
+use Prim.Native.Nat.{ℕ}
 use Rattle.names.specs.Read.{Read, got, none}
 use Rattle.records.specs.declared.Signed.{Signed}
 use Rattle.days.specs.declared.RawDays.{RawDays}
@@ -22,6 +23,8 @@ use Rattle.days.specs.declared.WeekdaysRead.the-variants as weekdays
 use Rattle.days.specs.declared.OffsetThen.{OffsetThen}
 use Rattle.days.specs.declared.DaysThen.{DaysThen}
 use Rattle.days.specs.declared.WeekdaysThen.{WeekdaysThen}
+use Rattle.days.specs.declared.LastThen.{LastThen}
+use Rattle.days.specs.declared.MarksThen.{MarksThen}
 
 abbrev pub seenSign : SignRead → Read Bool
 seenSign (sign.Got x c) = got x (c .at)
@@ -56,3 +59,9 @@ thenDays r = got r.days (r.next .at)
 
 abbrev pub thenWeekdays : WeekdaysThen → Read RawWeekdays
 thenWeekdays r = got r.weekdays (r.next .at)
+
+abbrev pub thenLast : LastThen → Read ℕ
+thenLast r = got r.last (r.next .at)
+
+abbrev pub thenMarks : MarksThen → Read Marks
+thenMarks r = got r.marks (r.next .at)

@@ -1,12 +1,14 @@
--- Weekday: `Wd`, `Wd-Wd`, or `Wd[entries]` with optional day offset.
+-- Weekday: `Wd`, `Wd-Wd`, or `Wd[entries]` with optional day offset. In the second edition `Wd` or `Wd-Wd`, each with optional `[entries]` and optional day offset.
 use Prim.Native.Nat.{ℕ}
 use mathlib.Core.Bool.{_&&_, not}
 use lib.Dec.{eqb}
 use Rattle.names.specs.Tests.{if_then_else_}
-use Rattle.names.specs.Read.{Reader, pure, _>>=_, _>>_, _or_}
+use Rattle.names.specs.Read.{Reader, pure, _>>=_, _>>_, _or_, maybe}
 use Rattle.names.specs.Texts.{sign}
 use Rattle.names.specs.Names.{name, weekday}
 use Rattle.names.specs.Refusals.{range}
+use Rattle.names.specs.declared.Manner.{Manner}
+use Rattle.names.specs.declared.Manner.the-variants.{First, Second}
 use Rattle.records.specs.Items.{item, meant}
 use Rattle.records.specs.declared.Signed.{Signed}
 use Rattle.records.specs.declared.Item.{Item}
@@ -27,31 +29,55 @@ rawWeekdays first last marks days = record { first = first; last = last; marks =
 abbrev pub plain : ℕ → ℕ → RawWeekdays
 plain first last = rawWeekdays first last noMarks noDays
 
--- behind the first: `-Wd`
-unfoldable pub untilWeekday : ℕ → Reader RawWeekdays
-untilWeekday first = do
+-- `-Wd`
+unfoldable pub lastWeekday : Reader ℕ
+lastWeekday = do
   sign "-"
-  last ← name weekday
-  pure (plain first last)
+  name weekday
 
--- behind the first: `[entries]` with optional day offset
-unfoldable pub withEntries : ℕ → Reader RawWeekdays
-withEntries first = do
+-- `[entries]`
+unfoldable pub bracketed : Reader Marks
+bracketed = do
   sign "["
   m ← entries
   sign "]"
+  pure m
+
+-- after the first: `-Wd`
+unfoldable pub untilWeekday : ℕ → Reader RawWeekdays
+untilWeekday first = do
+  last ← lastWeekday
+  pure (plain first last)
+
+-- after the first: `[entries]` with optional day offset
+unfoldable pub withEntries : ℕ → Reader RawWeekdays
+withEntries first = do
+  m ← bracketed
   d ← anyDays
   pure (rawWeekdays first first m d)
 
--- the shape behind the first weekday
-unfoldable pub weekdayBehind : ℕ → Reader RawWeekdays
-weekdayBehind first = untilWeekday first or withEntries first or pure (plain first first)
+-- after the first, in the first edition: one of the two, or nothing
+unfoldable pub narrowBehind : ℕ → Reader RawWeekdays
+narrowBehind first = untilWeekday first or withEntries first or pure (plain first first)
+
+-- after the first, in the second edition: `-Wd` or none, `[entries]` or none, a day offset or none
+unfoldable pub wideBehind : ℕ → Reader RawWeekdays
+wideBehind first = do
+  last ← maybe lastWeekday first
+  m ← maybe bracketed noMarks
+  d ← anyDays
+  pure (rawWeekdays first last m d)
+
+-- the shape after the first weekday
+abbrev pub weekdayBehind : Manner → ℕ → Reader RawWeekdays
+weekdayBehind First = narrowBehind
+weekdayBehind Second = wideBehind
 
 -- the shape
-unfoldable pub weekdayShape : Reader RawWeekdays
-weekdayShape = do
+unfoldable pub weekdayShape : Manner → Reader RawWeekdays
+weekdayShape m = do
   first ← name weekday
-  weekdayBehind first
+  weekdayBehind m first
 
 -- weekdays with these flags
 abbrev pub weekdaysOf : ℕ → ℕ → Signed → ℕ → ℕ → Meant
@@ -68,9 +94,9 @@ weekdayMeaning r =
     else flagged r.first r.last (daysOf r.days) (bits (r.marks .starts)) (bits (r.marks .ends))
 
 -- a weekday item
-unfoldable pub weekdayItem : Reader Item
-weekdayItem = item weekdayShape weekdayMeaning
+unfoldable pub weekdayItem : Manner → Reader Item
+weekdayItem m = item (weekdayShape m) weekdayMeaning
 
 -- the item that begins at p, behind its first weekday
-unfoldable pub weekdayItemBehind : ℕ → ℕ → Reader Item
-weekdayItemBehind p first = meant p (weekdayBehind first) weekdayMeaning
+unfoldable pub weekdayItemBehind : Manner → ℕ → ℕ → Reader Item
+weekdayItemBehind m p first = meant p (weekdayBehind m first) weekdayMeaning

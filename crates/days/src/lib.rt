@@ -115,3 +115,15 @@ pub struct WeekdaysThen {
     pub weekdays: RawWeekdays,
     pub next: Cursor,
 }
+
+// The last weekday of a range, which may be the first, and the place after it.
+pub struct LastThen {
+    pub last: u8,
+    pub next: Cursor,
+}
+
+// The flags that entries set, if there are any, and the place after them.
+pub struct MarksThen {
+    pub marks: Marks,
+    pub next: Cursor,
+}

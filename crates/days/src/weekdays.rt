@@ -1,9 +1,14 @@
-// Weekday: `Wd`, `Wd-Wd`, or `Wd[entries]` with optional day offset.
+// Weekday: `Wd`, `Wd-Wd`, or `Wd[entries]` with optional day offset. In the second edition `Wd` or `Wd-Wd`, each with optional `[entries]` and optional day offset.
 ghost use mathlib.Core.Path.{_≡_};
+ghost use Rattle.names.specs.Read.{maybe};
+ghost use Rattle.names.specs.Seen.{Reads};
 ghost use Rattle.records.specs.Seen.{seenItem};
+ghost use Rattle.days.specs.Entries.{noMarks};
 ghost use Rattle.days.specs.Weekdays as weekdays;
-ghost use Rattle.days.specs.Seen.{seenWeekdays, thenWeekdays};
+ghost use Rattle.days.specs.Seen.{seenMarks, seenWeekdays, thenLast, thenMarks, thenWeekdays};
+use crate::LastThen;
 use crate::MarksRead;
+use crate::MarksThen;
 use crate::RawDays;
 use crate::RawWeekdays;
 use crate::WeekdaysRead;
@@ -13,6 +18,7 @@ use crate::entries::entries;
 use crate::entries::no_marks;
 use crate::offsets::any_days;
 use names::Cursor;
+use names::Manner;
 use names::Num;
 use names::RANGE;
 use names::Step;
@@ -37,38 +43,56 @@ fn plain(first: u8, last: u8) -> RawWeekdays
     }
 }
 
-// Behind the first: `-Wd`.
-fn until_weekday(s: &[u8], c: Cursor, first: u8) -> WeekdaysRead
-    ensures { λ r. ⌜ weekdays.untilWeekday first (now (s .entry)) (c .at) ≡ seenWeekdays r ⌝ }
+// `-Wd`
+fn last_weekday(s: &[u8], c: Cursor) -> Num
+    ensures { λ r. ⌜ Reads 12 (weekdays.lastWeekday (now (s .entry)) (c .at)) r ⌝ }
 {
     let minus = c.sign(s, b'-');
     let Step::Got(d) = minus else {
-        return WeekdaysRead::Missing;
+        return Num::Missing;
     };
-    let name = d.name(s, WEEKDAY);
-    let Num::Got(last, e) = name else {
-        return WeekdaysRead::Missing;
-    };
-    WeekdaysRead::Got(plain(first, last as u8), e)
+    d.name(s, WEEKDAY)
 }
 
-// Behind the first: `[entries]` with optional day offset.
-fn with_entries(s: &[u8], c: Cursor, first: u8) -> WeekdaysRead
-    ensures { λ r. ⌜ weekdays.withEntries first (now (s .entry)) (c .at) ≡ seenWeekdays r ⌝ }
+// `[entries]`
+fn bracketed(s: &[u8], c: Cursor) -> MarksRead
+    ensures { λ r. ⌜ weekdays.bracketed (now (s .entry)) (c .at) ≡ seenMarks r ⌝ }
 {
     let left = c.sign(s, b'[');
     let Step::Got(d) = left else {
-        return WeekdaysRead::Missing;
+        return MarksRead::Missing;
     };
     let inner = entries(s, d);
     let MarksRead::Got(marks, e) = inner else {
-        return WeekdaysRead::Missing;
+        return MarksRead::Missing;
     };
     let right = e.sign(s, b']');
     let Step::Got(f) = right else {
+        return MarksRead::Missing;
+    };
+    MarksRead::Got(marks, f)
+}
+
+// After the first: `-Wd`.
+fn until_weekday(s: &[u8], c: Cursor, first: u8) -> WeekdaysRead
+    ensures { λ r. ⌜ weekdays.untilWeekday first (now (s .entry)) (c .at) ≡ seenWeekdays r ⌝ }
+{
+    let name = last_weekday(s, c);
+    let Num::Got(last, d) = name else {
         return WeekdaysRead::Missing;
     };
-    let then = any_days(s, f);
+    WeekdaysRead::Got(plain(first, last as u8), d)
+}
+
+// After the first: `[entries]` with optional day offset.
+fn with_entries(s: &[u8], c: Cursor, first: u8) -> WeekdaysRead
+    ensures { λ r. ⌜ weekdays.withEntries first (now (s .entry)) (c .at) ≡ seenWeekdays r ⌝ }
+{
+    let inner = bracketed(s, c);
+    let MarksRead::Got(marks, d) = inner else {
+        return WeekdaysRead::Missing;
+    };
+    let then = any_days(s, d);
     let days = then.days;
     let next = then.next;
     WeekdaysRead::Got(
@@ -82,9 +106,9 @@ fn with_entries(s: &[u8], c: Cursor, first: u8) -> WeekdaysRead
     )
 }
 
-// The shape behind the first weekday.
-fn weekday_behind(s: &[u8], c: Cursor, first: u8) -> WeekdaysThen
-    ensures { λ r. ⌜ weekdays.weekdayBehind first (now (s .entry)) (c .at) ≡ thenWeekdays r ⌝ }
+// After the first, in the first edition: `-Wd`, or `[entries]` with optional day offset, or nothing.
+fn narrow_behind(s: &[u8], c: Cursor, first: u8) -> WeekdaysThen
+    ensures { λ r. ⌜ weekdays.narrowBehind first (now (s .entry)) (c .at) ≡ thenWeekdays r ⌝ }
 {
     let until = until_weekday(s, c, first);
     if let WeekdaysRead::Got(range, d) = until {
@@ -106,6 +130,68 @@ fn weekday_behind(s: &[u8], c: Cursor, first: u8) -> WeekdaysThen
                 next: c,
             }
         }
+    }
+}
+
+// `-Wd`, or else the first weekday is the last.
+fn any_last(s: &[u8], c: Cursor, first: u8) -> LastThen
+    ensures { λ r. ⌜ maybe weekdays.lastWeekday first (now (s .entry)) (c .at) ≡ thenLast r ⌝ }
+{
+    let name = last_weekday(s, c);
+    match name {
+        Num::Got(last, d) => LastThen {
+            last: last as u8,
+            next: d,
+        },
+        Num::Missing => LastThen {
+            last: first,
+            next: c,
+        },
+    }
+}
+
+// `[entries]`, or none.
+fn any_marks(s: &[u8], c: Cursor) -> MarksThen
+    ensures { λ r. ⌜ maybe weekdays.bracketed noMarks (now (s .entry)) (c .at) ≡ thenMarks r ⌝ }
+{
+    let inner = bracketed(s, c);
+    match inner {
+        MarksRead::Got(marks, d) => MarksThen { marks, next: d },
+        MarksRead::Missing => {
+            let marks = no_marks();
+            MarksThen { marks, next: c }
+        }
+    }
+}
+
+// After the first, in the second edition: `-Wd` or none, `[entries]` or none, a day offset or none.
+fn wide_behind(s: &[u8], c: Cursor, first: u8) -> WeekdaysThen
+    ensures { λ r. ⌜ weekdays.wideBehind first (now (s .entry)) (c .at) ≡ thenWeekdays r ⌝ }
+{
+    let range = any_last(s, c, first);
+    let marked = any_marks(s, range.next);
+    let moved = any_days(s, marked.next);
+    let marks = marked.marks;
+    let days = moved.days;
+    let next = moved.next;
+    WeekdaysThen {
+        weekdays: RawWeekdays {
+            first,
+            last: range.last,
+            marks,
+            days,
+        },
+        next,
+    }
+}
+
+// The shape after the first weekday.
+fn weekday_behind(s: &[u8], m: Manner, c: Cursor, first: u8) -> WeekdaysThen
+    ensures { λ r. ⌜ weekdays.weekdayBehind m first (now (s .entry)) (c .at) ≡ thenWeekdays r ⌝ }
+{
+    match m {
+        Manner::First => narrow_behind(s, c, first),
+        Manner::Second => wide_behind(s, c, first),
     }
 }
 
@@ -157,22 +243,22 @@ fn weekday_meaning(r: RawWeekdays) -> Meant
 }
 
 // The item that begins at p, behind its first weekday.
-pub fn weekday_item_behind(s: &[u8], p: usize, c: Cursor, first: u8) -> ItemRead
-    ensures { λ r. ⌜ weekdays.weekdayItemBehind p first (now (s .entry)) (c .at) ≡ seenItem r ⌝ }
+pub fn weekday_item_behind(s: &[u8], m: Manner, p: usize, c: Cursor, first: u8) -> ItemRead
+    ensures { λ r. ⌜ weekdays.weekdayItemBehind m p first (now (s .entry)) (c .at) ≡ seenItem r ⌝ }
 {
-    let shape = weekday_behind(s, c, first);
+    let shape = weekday_behind(s, m, c, first);
     let r = shape.weekdays;
     let next = shape.next;
     judged(p, weekday_meaning(r), next)
 }
 
 // A weekday item.
-pub fn weekday_item(s: &[u8], c: Cursor) -> ItemRead
-    ensures { λ r. ⌜ weekdays.weekdayItem (now (s .entry)) (c .at) ≡ seenItem r ⌝ }
+pub fn weekday_item(s: &[u8], m: Manner, c: Cursor) -> ItemRead
+    ensures { λ r. ⌜ weekdays.weekdayItem m (now (s .entry)) (c .at) ≡ seenItem r ⌝ }
 {
     let name = c.name(s, WEEKDAY);
     let Num::Got(first, d) = name else {
         return ItemRead::Missing;
     };
-    weekday_item_behind(s, c.at, d, first as u8)
+    weekday_item_behind(s, m, c.at, d, first as u8)
 }

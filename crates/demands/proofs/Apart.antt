@@ -1,4 +1,4 @@
--- No second answer meets the promise of a user's call, for each of the twelve: two that meet it are one.
+-- No second answer meets the promise of a user's call, for each of the eighteen: two that meet it are one.
 use Prim.Native.Nat.{ℕ}
 use mathlib.Core.Bool.{Bool}
 use mathlib.Core.List.{List}
@@ -10,9 +10,10 @@ use Rattle.sheet.specs.Notes.{Bytes, Part, notePart, numbersOf, noteOf}
 use Rattle.sheet.specs.declared.Answer.{Answer}
 use Rattle.sheet.specs.declared.PartAnswer.{PartAnswer}
 use Rattle.sheet.specs.declared.NotePart.{NotePart}
+use Rattle.sheet.specs.Editions.{sheetReadingIn, sheetReadingBytesIn, partReadingIn, partReadingBytesIn}
 use Rattle.feed.specs.Feeds.{feedReading, feedReadingBytes}
 use Rattle.feed.specs.declared.FeedAnswer.{FeedAnswer}
-use Rattle.entries.specs.Calls.{sheetCall, partCall, noteCall, feedCall}
+use Rattle.entries.specs.Calls.{sheetCall, sheetCallIn, partCall, partCallIn, noteCall, feedCall}
 
 -- what is the same as a third thing is the same
 one : {A : Type 0} {x y z : A} → x ≡ z → y ≡ z → x ≡ y
@@ -66,3 +67,27 @@ note-call-apart sheet note a n = one
 -- lorukinde_read_feed: the numbers, and both tables afterwards
 pub feed-call-apart : (s u t : List ℕ) {x y : List ℕ × (List ℕ × List ℕ)} → x ≡ feedCall s u t → y ≡ feedCall s u t → x ≡ y
 feed-call-apart s u t = one
+
+-- the calls with an edition: read_sheet_in
+pub sheet-in-apart : (edition : ℕ) (s : List ℕ) (t : List ℤ) {x y : Answer × List ℤ} → x ≡ sheetReadingIn edition s t → y ≡ sheetReadingIn edition s t → x ≡ y
+sheet-in-apart edition s t = one
+
+-- read_sheet_bytes_in
+pub sheet-bytes-in-apart : (edition : ℕ) (s t : List ℕ) {x y : Answer × List ℕ} → x ≡ sheetReadingBytesIn edition s t → y ≡ sheetReadingBytesIn edition s t → x ≡ y
+sheet-bytes-in-apart edition s t = one
+
+-- read_part_in
+pub part-in-apart : (edition : ℕ) (s : List ℕ) (p : ℕ) (t : List ℤ) {x y : PartAnswer × List ℤ} → x ≡ partReadingIn edition s p t → y ≡ partReadingIn edition s p t → x ≡ y
+part-in-apart edition s p t = one
+
+-- read_part_bytes_in
+pub part-bytes-in-apart : (edition : ℕ) (s : List ℕ) (p : ℕ) (t : List ℕ) {x y : PartAnswer × List ℕ} → x ≡ partReadingBytesIn edition s p t → y ≡ partReadingBytesIn edition s p t → x ≡ y
+part-bytes-in-apart edition s p t = one
+
+-- lorukinde_read_sheet_in
+pub sheet-call-in-apart : (edition : ℕ) (s t : List ℕ) {x y : List ℕ × List ℕ} → x ≡ sheetCallIn edition s t → y ≡ sheetCallIn edition s t → x ≡ y
+sheet-call-in-apart edition s t = one
+
+-- lorukinde_read_part_in
+pub part-call-in-apart : (edition : ℕ) (s : List ℕ) (p : ℕ) (t : List ℕ) {x y : List ℕ × List ℕ} → x ≡ partCallIn edition s p t → y ≡ partCallIn edition s p t → x ≡ y
+part-call-in-apart edition s p t = one

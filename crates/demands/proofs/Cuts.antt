@@ -11,6 +11,7 @@ use lib.Dec.{eqb}
 use lib.ListN.{length, getD, length-append, List·getD-append}
 use lib.Seq.{getD-at}
 use borrow.Author.Tests.{eq-eqb, ne-eqb, lt-ltb}
+use Rattle.names.specs.declared.Manner.{Manner}
 use Rattle.names.specs.Read.{Read, got, none, refused, Reader, follow, branch, nothing, pure, map, when, one, atEnd, _or_, _>>_}
 use Rattle.names.specs.Chain.{before, last, chain}
 use Rattle.names.specs.Texts.{byte}
@@ -125,7 +126,7 @@ rule-still r = rw (start-still (r .0 .comment .length) (r .0 .comment .start), z
 abbrev Steps : List ℕ → ℕ → Rule × Next → ℕ → Rule × Next → ℕ → Type 0
 Steps s i x j y e = (x .0 ≡ y .0) × Goes s (suc i) (x .1) j (y .1) e
 
-module _ (s t : List ℕ) where
+module _ (m : Manner) (s t : List ℕ) where
   -- from an earlier place
   goes-from : {i j : ℕ} {x y : Next} {p q : ℕ} → i ≤ j → Goes s j x p y q → Goes s i x p y q
   goes-from h (on {j = p} l z) = on {j = p} (omega arith) z
@@ -138,10 +139,10 @@ module _ (s t : List ℕ) where
   paired r h both = both
 
   -- a rule, and what parts it from the next
-  parted-cut : (separator i : ℕ) → Side false s i → Cut (Steps s i) (parted separator (s ++ 59 ∷ t) i) (parted separator s i)
+  parted-cut : (separator i : ℕ) → Side false s i → Cut (Steps s i) (parted m separator (s ++ 59 ∷ t) i) (parted m separator s i)
   unfolding parted
   parted-cut separator i w =
-      cut-then s t _ (rule-local separator) rule-still w (λ r j h z.
+      cut-then s t _ (rule-local m separator) rule-still w (λ r j h z.
       cut-then s t _ blanks-local (λ _. refl) z (λ _ e g y. paired r (omega arith) (must-cut s t e y)))
 
   -- a step from an earlier place
@@ -151,7 +152,7 @@ module _ (s t : List ℕ) where
   steps-from h both = both
 
   -- a rule of a text
-  step-cut : (separator i : ℕ) → Side false s i → Cut (Steps s i) (moreRules (Another separator) (s ++ 59 ∷ t) i) (moreRules (Another separator) s i)
+  step-cut : (separator i : ℕ) → Side false s i → Cut (Steps s i) (moreRules m (Another separator) (s ++ 59 ∷ t) i) (moreRules m (Another separator) s i)
   unfolding moreRules
   step-cut separator i w = cut-then s t _ blanks-local (λ _. refl) w (λ _ j h z. steps-from (omega arith) (parted-cut separator j z))
 
@@ -169,7 +170,7 @@ joined (got l j) y = followed (l .0) y
 joined none y = none
 joined (refused k p) y = refused k p
 
-module _ (s t : List ℕ) where
+module _ (m : Manner) (s t : List ℕ) where
   -- a rule in front
   front : (r : Rule) (j e : ℕ) (x y : Read (List Rule × Unit {0})) → follow (s ++ 59 ∷ t) e (joined x y) (λ l. pure (before r l)) nothing ≡ joined (follow s j x (λ l. pure (before r l)) nothing) y
   front r j e (got l i) (got l′ i′) = refl
@@ -186,27 +187,27 @@ module _ (s t : List ℕ) where
 
   -- by the bytes that are left
   cut-from : (n separator i : ℕ) → Side false s i → length s < n + i →
-      chain moreRules noMore (Another separator) (s ++ 59 ∷ t) i ≡ joined (chain moreRules noMore (Another separator) s i) (rules (s ++ 59 ∷ t) (suc (length s)))
+      chain (moreRules m) noMore (Another separator) (s ++ 59 ∷ t) i ≡ joined (chain (moreRules m) noMore (Another separator) s i) (rules m (s ++ 59 ∷ t) (suc (length s)))
   unfolding noMore moreRules rules
   cut-from zero separator i w h = absurd (omega (arith, w .fits))
   cut-from (suc n) separator i w h =
-      rw (rules-are (Another separator) (s ++ 59 ∷ t) i, rules-are (Another separator) s i) (go (λ q j z l. cut-from n q j z l) (step-cut s t separator i w))
+      rw (rules-are m (Another separator) (s ++ 59 ∷ t) i, rules-are m (Another separator) s i) (go (λ q j z l. cut-from n q j z l) (step-cut m s t separator i w))
     where
-      ends : ((q j : ℕ) → Side false s j → length s < n + j → chain moreRules noMore (Another q) (s ++ 59 ∷ t) j ≡ joined (chain moreRules noMore (Another q) s j) (rules (s ++ 59 ∷ t) (suc (length s)))) →
+      ends : ((q j : ℕ) → Side false s j → length s < n + j → chain (moreRules m) noMore (Another q) (s ++ 59 ∷ t) j ≡ joined (chain (moreRules m) noMore (Another q) s j) (rules m (s ++ 59 ∷ t) (suc (length s)))) →
           (r : Rule) {x y : Next} {j e : ℕ} → Goes s (suc i) x j y e →
-          map (before r) (chain moreRules noMore x) (s ++ 59 ∷ t) j ≡ joined (map (before r) (chain moreRules noMore y) s e) (rules (s ++ 59 ∷ t) (suc (length s)))
-      ends ih r (on {n = q} {j} l z) = rw (ih q j z (omega arith)) (front r j j (chain moreRules noMore (Another q) s j) (rules (s ++ 59 ∷ t) (suc (length s))))
-      ends ih r (over {j} l e) = rw (rules-are Finished s j, e) (alone r (suc (length s)) (rules (s ++ 59 ∷ t) (suc (length s))))
+          map (before r) (chain (moreRules m) noMore x) (s ++ 59 ∷ t) j ≡ joined (map (before r) (chain (moreRules m) noMore y) s e) (rules m (s ++ 59 ∷ t) (suc (length s)))
+      ends ih r (on {n = q} {j} l z) = rw (ih q j z (omega arith)) (front r j j (chain (moreRules m) noMore (Another q) s j) (rules m (s ++ 59 ∷ t) (suc (length s))))
+      ends ih r (over {j} l e) = rw (rules-are m Finished s j, e) (alone r (suc (length s)) (rules m (s ++ 59 ∷ t) (suc (length s))))
 
-      go : ((q j : ℕ) → Side false s j → length s < n + j → chain moreRules noMore (Another q) (s ++ 59 ∷ t) j ≡ joined (chain moreRules noMore (Another q) s j) (rules (s ++ 59 ∷ t) (suc (length s)))) →
+      go : ((q j : ℕ) → Side false s j → length s < n + j → chain (moreRules m) noMore (Another q) (s ++ 59 ∷ t) j ≡ joined (chain (moreRules m) noMore (Another q) s j) (rules m (s ++ 59 ∷ t) (suc (length s)))) →
           {x y : Read (Rule × Next)} → Cut (Steps s i) x y →
-          follow (s ++ 59 ∷ t) i x (λ c. map (before (c .0)) (chain moreRules noMore (c .1))) (map last (noMore (Another separator)))
-          ≡ joined (follow s i y (λ c. map (before (c .0)) (chain moreRules noMore (c .1))) (map last (noMore (Another separator)))) (rules (s ++ 59 ∷ t) (suc (length s)))
+          follow (s ++ 59 ∷ t) i x (λ c. map (before (c .0)) (chain (moreRules m) noMore (c .1))) (map last (noMore (Another separator)))
+          ≡ joined (follow s i y (λ c. map (before (c .0)) (chain (moreRules m) noMore (c .1))) (map last (noMore (Another separator)))) (rules m (s ++ 59 ∷ t) (suc (length s)))
       go ih (found {a = (r, x)} {b = (r′, y)} {j} {e} p) = rw (p .0) (ends ih r′ (p .1))
       go ih neither = refl
       go ih both = refl
 
   -- the cut law, from a place from which on the quotes before the `;` pair
-  pub rules-cut : (i : ℕ) → At (59 ∷ t) false s i → rules (s ++ 59 ∷ t) i ≡ joined (rules s i) (rules (s ++ 59 ∷ t) (suc (length s)))
+  pub rules-cut : (i : ℕ) → At (59 ∷ t) false s i → rules m (s ++ 59 ∷ t) i ≡ joined (rules m s i) (rules m (s ++ 59 ∷ t) (suc (length s)))
   unfolding rules
   rules-cut i w = cut-from (suc (length s)) 0 i w (omega arith)

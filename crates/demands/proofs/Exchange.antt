@@ -9,11 +9,12 @@ use native.Mathlib.Decide.{decLt}
 use lib.ListN.{length, length-append}
 use lib.Seq.{take-append-le, take-append-seam, drop-append-seam, getD-append-seam}
 use borrow.Author.Tests.{le-ltb, lt-ltb}
+use Rattle.names.specs.declared.Manner.{Manner}
 use Rattle.names.specs.Quotes.{insideOf}
 use Rattle.sheet.specs.Parts.{begins, partIn, partEnd}
 use Rattle.records.specs.Tables.{Layout}
 use Rattle.sheet.specs.Sheets.{writtenAs}
-use Rattle.sheet.specs.PartReadings.{withNext, partOf}
+use Rattle.sheet.specs.PartReadings.{withNext, partBy}
 use Rattle.demands.specs.Moved.{movedPart}
 use Rattle.demands.specs.Exchanged.{Exchanged, Left, before, behind, Was, LeftCall}
 use Rattle.sheet.specs.declared.PartAnswer.{PartAnswer}
@@ -47,13 +48,13 @@ module _ (a z t : List ℕ) (b : begins (a ++ (z ++ 59 ∷ t)) (length a) ≡ tr
       rw (e, begins-from (a ++ (z ++ 59 ∷ t)) (length a) (suc (length z + q)) b, drop-append-seam a (z ++ 59 ∷ t)) (begins-later z t q o)
 
   -- and is answered so
-  behind-moves : (q n : ℕ) → length (a ++ (z ++ 59 ∷ t)) ≤ 4096 → begins t q ≡ true → partOf (a ++ (z ++ 59 ∷ t)) (length a + length z + suc q) n ≡ movedPart (length a + length z + 1) (partOf t q n)
-  behind-moves q n h k =
+  behind-moves : (m : Manner) (q n : ℕ) → length (a ++ (z ++ 59 ∷ t)) ≤ 4096 → begins t q ≡ true → partBy m (a ++ (z ++ 59 ∷ t)) (length a + length z + suc q) n ≡ movedPart (length a + length z + 1) (partBy m t q n)
+  behind-moves m q n h k =
       let u = a ++ (z ++ (59 ∷ [])) in
       let whole : u ++ t ≡ a ++ (z ++ 59 ∷ t) = append-assoc a (z ++ (59 ∷ [])) t ∙ ap (λ r. a ++ r) (append-assoc z (59 ∷ []) t) in
       let size : length u ≡ length a + length z + 1 = simp length-append (omega arith) in
       let place : length u + q ≡ length a + length z + suc q = omega arith in
-      rw (← whole, ← place, ← size) (part-move u t q n (rw whole h) (rw (whole, place) (behind-begins q ∙ k)) k)
+      rw (← whole, ← place, ← size) (part-move m u t q n (rw whole h) (rw (whole, place) (behind-begins q ∙ k)) k)
 
 -- ---- where parts begin
 
@@ -92,18 +93,18 @@ module _ {a x y : List ℕ} where
   places z (rest t o) (suc q) h = behind-begins a y t (itself z (rest t o) .0) (z .pairs) q ∙ sym (behind-begins a x t (z .part-begins) o q)
 
   -- its two answers and their records are the same, each moved by what makes up for the lengths
-  shifts : {b : List ℕ} → Exchanged a x y b → Rest x b → (r n d e : ℕ) → 0 < r → d + length x ≡ e + length y → begins (a ++ (x ++ b)) (length a + length x + r) ≡ true →
-      movedPart d (partOf (a ++ (x ++ b)) (length a + length x + r) n) ≡ movedPart e (partOf (a ++ (y ++ b)) (length a + length y + r) n)
-  shifts z no-rest r n d e h l k = absurd (true≢false (sym k ∙ past a x r h))
-  shifts z (rest t o) zero n d e h l k = absurd (omega arith)
-  shifts z (rest t o) (suc q) n d e h l k =
+  shifts : (m : Manner) {b : List ℕ} → Exchanged a x y b → Rest x b → (r n d e : ℕ) → 0 < r → d + length x ≡ e + length y → begins (a ++ (x ++ b)) (length a + length x + r) ≡ true →
+      movedPart d (partBy m (a ++ (x ++ b)) (length a + length x + r) n) ≡ movedPart e (partBy m (a ++ (y ++ b)) (length a + length y + r) n)
+  shifts m z no-rest r n d e h l k = absurd (true≢false (sym k ∙ past a x r h))
+  shifts m z (rest t o) zero n d e h l k = absurd (omega arith)
+  shifts m z (rest t o) (suc q) n d e h l k =
       let c : begins t q ≡ true = sym (behind-begins a x t (z .part-begins) o q) ∙ k in
       let f : d + (length a + length x + 1) ≡ e + (length a + length y + 1) = omega arith in
       rw (
-        behind-moves a x t (z .part-begins) o q n (z .old-fits) c,
-        behind-moves a y t (itself z (rest t o) .0) (z .pairs) q n (z .new-fits) c,
-        part-twice d (length a + length x + 1) (partOf t q n),
-        part-twice e (length a + length y + 1) (partOf t q n),
+        behind-moves a x t (z .part-begins) o m q n (z .old-fits) c,
+        behind-moves a y t (itself z (rest t o) .0) (z .pairs) m q n (z .new-fits) c,
+        part-twice d (length a + length x + 1) (partBy m t q n),
+        part-twice e (length a + length y + 1) (partBy m t q n),
         f,
       )
 
@@ -130,9 +131,9 @@ module _ {a x y b : List ℕ} (z : Exchanged a x y b) where
   exchange-itself = itself z behind-x
 
   -- a part before x is a part of the second sheet, and is answered as it was
-  pub exchange-before : (p n : ℕ) → p < length a → begins (a ++ (x ++ b)) p ≡ true → (begins (a ++ (y ++ b)) p ≡ true) × (partOf (a ++ (y ++ b)) p n ≡ partOf (a ++ (x ++ b)) p n)
-  unfolding partOf withNext
-  exchange-before p n h k =
+  pub exchange-before : (m : Manner) (p n : ℕ) → p < length a → begins (a ++ (x ++ b)) p ≡ true → (begins (a ++ (y ++ b)) p ≡ true) × (partBy m (a ++ (y ++ b)) p n ≡ partBy m (a ++ (x ++ b)) p n)
+  unfolding partBy withNext
+  exchange-before m p n h k =
       let e = partEnd (a ++ (x ++ b)) p in
       let l : e < length a = ends-before p h k in
       let c : begins (a ++ (y ++ b)) p ≡ true = begins-earlier a (y ++ b) p (omega arith) ∙ sym (begins-earlier a (x ++ b) p (omega arith)) ∙ k in (
@@ -150,32 +151,32 @@ module _ {a x y b : List ℕ} (z : Exchanged a x y b) where
         ),
       )
 
-  module _ (r n : ℕ) (h : 0 < r) (k : begins (a ++ (x ++ b)) (length a + length x + r) ≡ true) where
+  module _ (m : Manner) (r n : ℕ) (h : 0 < r) (k : begins (a ++ (x ++ b)) (length a + length x + r) ≡ true) where
     -- a part behind x is a part of the second sheet, and is answered as it was, with its places shifted
     pub exchange-behind : (begins (a ++ (y ++ b)) (length a + length y + r) ≡ true) ×
-        (movedPart (length y) (partOf (a ++ (x ++ b)) (length a + length x + r) n) ≡ movedPart (length x) (partOf (a ++ (y ++ b)) (length a + length y + r) n))
-    exchange-behind = (places z behind-x r h ∙ k, shifts z behind-x r n (length y) (length x) h (omega arith) k)
+        (movedPart (length y) (partBy m (a ++ (x ++ b)) (length a + length x + r) n) ≡ movedPart (length x) (partBy m (a ++ (y ++ b)) (length a + length y + r) n))
+    exchange-behind = (places z behind-x r h ∙ k, shifts m z behind-x r n (length y) (length x) h (omega arith) k)
 
     -- where y is the longer, its places are later by the difference
-    pub exchange-longer : length x ≤ length y → partOf (a ++ (y ++ b)) (length a + length y + r) n ≡ movedPart (length y - length x) (partOf (a ++ (x ++ b)) (length a + length x + r) n)
-    exchange-longer l = sym (shifts z behind-x r n (length y - length x) 0 h (omega arith) k ∙ part-still (partOf (a ++ (y ++ b)) (length a + length y + r) n))
+    pub exchange-longer : length x ≤ length y → partBy m (a ++ (y ++ b)) (length a + length y + r) n ≡ movedPart (length y - length x) (partBy m (a ++ (x ++ b)) (length a + length x + r) n)
+    exchange-longer l = sym (shifts m z behind-x r n (length y - length x) 0 h (omega arith) k ∙ part-still (partBy m (a ++ (y ++ b)) (length a + length y + r) n))
 
     -- where x is, they were later
-    pub exchange-shorter : length y ≤ length x → partOf (a ++ (x ++ b)) (length a + length x + r) n ≡ movedPart (length x - length y) (partOf (a ++ (y ++ b)) (length a + length y + r) n)
-    exchange-shorter l = sym (part-still (partOf (a ++ (x ++ b)) (length a + length x + r) n)) ∙ shifts z behind-x r n 0 (length x - length y) h (omega arith) k
+    pub exchange-shorter : length y ≤ length x → partBy m (a ++ (x ++ b)) (length a + length x + r) n ≡ movedPart (length x - length y) (partBy m (a ++ (y ++ b)) (length a + length y + r) n)
+    exchange-shorter l = sym (part-still (partBy m (a ++ (x ++ b)) (length a + length x + r) n)) ∙ shifts m z behind-x r n 0 (length x - length y) h (omega arith) k
 
   -- the exchange: each other part of the first sheet is left
-  pub exchange : (p n : ℕ) → begins (a ++ (x ++ b)) p ≡ true → p ≢ length a → Left a x y b n p
-  exchange p n k d = go (apart (a ++ (x ++ b)) (length a) p (z .part-begins) k d)
+  pub exchange : (m : Manner) (p n : ℕ) → begins (a ++ (x ++ b)) p ≡ true → p ≢ length a → Left m a x y b n p
+  exchange m p n k d = go (apart (a ++ (x ++ b)) (length a) p (z .part-begins) k d)
     where
-      go : (p < length a) ⊎ (partEnd (a ++ (x ++ b)) (length a) < p) → Left a x y b n p
-      go (inl h) = let w = exchange-before p n h k in before h (w .0) (w .1)
+      go : (p < length a) ⊎ (partEnd (a ++ (x ++ b)) (length a) < p) → Left m a x y b n p
+      go (inl h) = let w = exchange-before m p n h k in before h (w .0) (w .1)
       go (inr h) =
           let r = p - (length a + length x) in
           let e : length a + length x + r ≡ p = omega (arith, z .part-ends) in
           let l : 0 < r = omega (arith, z .part-ends) in
-          let w = exchange-behind r n l (rw e k) in
-          subst (Left a x y b n) e (behind r l (w .0) (w .1))
+          let w = exchange-behind m r n l (rw e k) in
+          subst (Left m a x y b n) e (behind r l (w .0) (w .1))
 
   -- and each other part of the second was one of the first
   pub exchange-others : (p : ℕ) → begins (a ++ (y ++ b)) p ≡ true → p ≢ length a → Was a x y b p
@@ -190,12 +191,12 @@ module _ {a x y b : List ℕ} (z : Exchanged a x y b) where
           subst (Was a x y b) e (behind r l (sym (places z behind-x r l) ∙ rw e k))
 
   -- the exchange, at a call that gives what the part comes to with room for n words
-  pub exchange-called : {A : Type 0} (d : Layout A) (read : List ℕ → ℕ → List A → PartAnswer × List A) (n : ℕ) (t : List A) → ((s : List ℕ) (p : ℕ) → read s p t ≡ writtenAs d t (partOf s p n)) →
-      (p : ℕ) → begins (a ++ (x ++ b)) p ≡ true → p ≢ length a → LeftCall d read n t a x y b p
-  exchange-called d read n t is p k e = go (exchange p n k e)
+  pub exchange-called : (m : Manner) {A : Type 0} (d : Layout A) (read : List ℕ → ℕ → List A → PartAnswer × List A) (n : ℕ) (t : List A) → ((s : List ℕ) (p : ℕ) → read s p t ≡ writtenAs d t (partBy m s p n)) →
+      (p : ℕ) → begins (a ++ (x ++ b)) p ≡ true → p ≢ length a → LeftCall m d read n t a x y b p
+  exchange-called m d read n t is p k e = go (exchange m p n k e)
     where
-      go : {p : ℕ} → Left a x y b n p → LeftCall d read n t a x y b p
+      go : {p : ℕ} → Left m a x y b n p → LeftCall m d read n t a x y b p
       go (before {p} h c e) = before h (rw (← e) (is (a ++ (y ++ b)) p))
       go (behind r h c e) =
           let q = length a + length y + r in
-          behind r (partOf (a ++ (y ++ b)) q n) h e (is (a ++ (y ++ b)) q)
+          behind r (partBy m (a ++ (y ++ b)) q n) h e (is (a ++ (y ++ b)) q)

@@ -10,6 +10,7 @@ use Rattle.records.specs.Bytes.{recordBytes}
 use Rattle.records.proofs.Stores.{length-bytes}
 use Rattle.records.proofs.Cells.{Sixteen, sixteen-append}
 use Rattle.sheet.specs.Sheets.{sheetOf, wordsIn}
+use Rattle.names.specs.declared.Manner.the-variants.{First}
 use Rattle.sheet.proofs.Readings.{sheet-held}
 use Rattle.feed.specs.Lines.{lines}
 use Rattle.feed.specs.Feeds.{Reading, readings, answersOf, recordsOf, feedAnswerOf, FeedReading, allOf, fewPlaces, feedOf, feedReading, feedReadingBytes}
@@ -28,7 +29,7 @@ unfolding readings
 records-sixteen [] n = tt
 records-sixteen (l ∷ ls) n =
     let m = n - length (sheetOf l n .1) * 16 in
-    sixteen-append (sheetOf l n .1) (recordsOf (readings ls m)) (sheet-held l n .long) (records-sixteen ls m)
+    sixteen-append (sheetOf l n .1) (recordsOf (readings ls m)) (sheet-held First l n .long) (records-sixteen ls m)
 
 abbrev Whole : FeedReading → Type 0
 Whole r = Each 4 (r .1 .0) × Sixteen (r .1 .1)

@@ -9,6 +9,7 @@ use lib.ListN.{length, getD, length-append}
 use borrow.Author.Tests.{lt-ltb, le-ltb}
 use Rattle.records.specs.Tables.{Layout, laid}
 use Rattle.sheet.specs.Sheets.{refusal, sheetOf}
+use Rattle.names.specs.declared.Manner.the-variants.{First}
 use Rattle.sheet.proofs.Readings.{sheet-held}
 use Rattle.feed.specs.Lines.{lines}
 use Rattle.feed.specs.Feeds.{Reading, readings, recordsOf, feedAnswerOf, allOf, FeedReading, fewPlaces, feedOf, writtenFeed, feedReading, feedReadingBytes}
@@ -54,7 +55,7 @@ lines-counted (l ∷ ls) n = ap suc (lines-counted ls (n - length (sheetOf l n .
 pub records-counted : (ls : List (List ℕ)) (n : ℕ) → length (recordsOf (readings ls n)) ≡ added (readings ls n)
 unfolding readings
 records-counted [] n = refl
-records-counted (l ∷ ls) n = simp length-append (omega (arith, sheet-held l n .many, records-counted ls (n - length (sheetOf l n .1) * 16)))
+records-counted (l ∷ ls) n = simp length-append (omega (arith, sheet-held First l n .many, records-counted ls (n - length (sheetOf l n .1) * 16)))
 
 -- ---- a refusal leaves everything as it was
 

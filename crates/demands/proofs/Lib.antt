@@ -20,3 +20,8 @@ pub mod Feeds
 pub mod FeedBytes
 pub mod ProvedFeeds
 pub mod Within
+pub mod Wider
+pub mod WiderRules
+pub mod Editions
+pub mod Points
+pub mod PointsRules

@@ -10,11 +10,12 @@ use lib.IntN.{ℤ, pos, _+ℤ_, +ℤ-idl, +ℤ-assoc}
 use lib.ListN.{length, getD, take, length-append}
 use lib.Seq.{set-getD, take-append-add, drop-append-add}
 use borrow.Author.Tests.{le-ltb}
+use Rattle.names.specs.declared.Manner.{Manner}
 use Rattle.names.specs.Tests.{if_then_else_}
 use Rattle.names.proofs.Local.{compare-add}
 use Rattle.sheet.specs.Parts.{begins, partEnd}
 use Rattle.sheet.specs.Sheets.{textOf}
-use Rattle.sheet.specs.PartReadings.{partAnswerOf, withNext, partOf}
+use Rattle.sheet.specs.PartReadings.{partAnswerOf, withNext, partBy}
 use Rattle.demands.specs.Moved.{movedWord, hasComment, movedRecord, movedReading, movedNext, movedPart}
 use Rattle.sheet.specs.declared.Answer.{Answer}
 use Rattle.sheet.specs.declared.PartAnswer.{PartAnswer}
@@ -144,8 +145,8 @@ next-move u t e r = rw (length-append u t, ← add-suc (length u) e, compare-add
     go false = refl
 
 -- the move law of a part
-pub part-move : (u t : List ℕ) (p n : ℕ) → length (u ++ t) ≤ 4096 → begins (u ++ t) (length u + p) ≡ true → begins t p ≡ true → partOf (u ++ t) (length u + p) n ≡ movedPart (length u) (partOf t p n)
-unfolding partOf
-part-move u t p n h b b₂ =
+pub part-move : (m : Manner) (u t : List ℕ) (p n : ℕ) → length (u ++ t) ≤ 4096 → begins (u ++ t) (length u + p) ≡ true → begins t p ≡ true → partBy m (u ++ t) (length u + p) n ≡ movedPart (length u) (partBy m t p n)
+unfolding partBy
+part-move m u t p n h b b₂ =
     let l : length t ≤ 4096 = omega (arith, length-append u t) in
-    rw (le-ltb 4096 (length (u ++ t)) h, le-ltb 4096 (length t) l, b, b₂, end-move u t p, take-append-add u t (partEnd t p), text-move u (take (partEnd t p) t) p n) (next-move u t (partEnd t p) (textOf (take (partEnd t p) t) p n))
+    rw (le-ltb 4096 (length (u ++ t)) h, le-ltb 4096 (length t) l, b, b₂, end-move u t p, take-append-add u t (partEnd t p), text-move m u (take (partEnd t p) t) p n) (next-move u t (partEnd t p) (textOf m (take (partEnd t p) t) p n))

@@ -8,6 +8,7 @@ use lib.Dec.{ltb, eqb·suc-zero}
 use lib.IntN.{ℤ, pos}
 use lib.ListN.{length, drop, set, length-map}
 use lib.Seq.{drop-append-add}
+use Rattle.names.specs.declared.Manner.{Manner}
 use Rattle.names.specs.Tests.{if_then_else_}
 use Rattle.names.specs.Read.{Read, got, none, refused}
 use Rattle.names.proofs.Local.{stop-end, Ends, moved}
@@ -76,9 +77,9 @@ records-move d (r ∷ l) = rw (records-move d l, map-append (movedRecord d) (map
 -- ---- answers
 
 -- the move law of a reading
-pub text-move : (u s : List ℕ) (p n : ℕ) → textOf (u ++ s) (length u + p) n ≡ movedReading (length u) (textOf s p n)
+pub text-move : (m : Manner) (u s : List ℕ) (p n : ℕ) → textOf m (u ++ s) (length u + p) n ≡ movedReading (length u) (textOf m s p n)
 unfolding textOf
-text-move u s p n = rw (rules-move u s p) (go _ (rules s p) (rules-ended [] .ends s [] p stop-end tt))
+text-move m u s p n = rw (rules-move m u s p) (go _ (rules m s p) (rules-ended m [] .ends s [] p stop-end tt))
   where
     stored-moves : (rs : List (List ℤ)) (full : Bool) → (if full then refusal 10 (length u + p) else (answerOf 0 0 (length rs) (warningsOf (drop p s)), map (movedRecord (length u)) rs))
         ≡ movedReading (length u) (if full then refusal 10 p else (answerOf 0 0 (length rs) (warningsOf (drop p s)), rs))

@@ -11,15 +11,16 @@ use lib.IntN.{ℤ}
 use lib.ListN.{length, take, drop, length-append}
 use lib.Seq.{length-take-le, take-all, drop-append-le}
 use borrow.Author.Tests.{le-ltb, lt-ltb}
+use Rattle.names.specs.declared.Manner.{Manner}
 use Rattle.names.specs.Tests.{if_then_else_}
 use Rattle.names.specs.Read.{Read, got, none, refused}
 use Rattle.names.proofs.Local.{Ends, stop-end}
 use Rattle.rules.specs.Rules.{Rule}
 use Rattle.sheet.specs.Texts.{rules, ruleRecords, records}
-use Rattle.sheet.specs.Sheets.{answerOf, refusal, judgedText, textOf, sheetOf}
+use Rattle.sheet.specs.Sheets.{answerOf, refusal, judgedText, textOf, sheetBy}
 use Rattle.sheet.specs.Warnings.{warningsOf}
 use Rattle.sheet.specs.Parts.{partEnd, begins, places}
-use Rattle.sheet.specs.PartReadings.{partAnswerOf, withNext, partTo, partOf}
+use Rattle.sheet.specs.PartReadings.{partAnswerOf, withNext, partTo, partBy}
 use Rattle.sheet.proofs.Laws.{part-begin, begins-first}
 use Rattle.sheet.proofs.Moves.{rules-ended}
 use Rattle.demands.proofs.Cuts.{joined, rules-cut}
@@ -113,9 +114,9 @@ two-judged u s p q n P Q none y w f g = two-refused n (refusal 3 p) (judgedText 
 two-judged u s p q n P Q (refused k o) y w f g = two-refused n (refusal k o) (judgedText s q n y) (refusal k o) (λ a b c. omega arith) (f .0)
 
 -- the text from a part's beginning on: that part, and the text behind the `;` that ends it
-two-texts : (s : List ℕ) (p n : ℕ) → partEnd s p < length s → Two n (textOf (take (partEnd s p) s) p n) (textOf s (suc (partEnd s p)) n) (textOf s p n)
+two-texts : (m : Manner) (s : List ℕ) (p n : ℕ) → partEnd s p < length s → Two n (textOf m (take (partEnd s p) s) p n) (textOf m s (suc (partEnd s p)) n) (textOf m s p n)
 unfolding textOf
-two-texts s p n h = rw cut (two-judged u s p (suc e) n _ _ (rules u p) (rules s (suc e)) warnings (rules-ended [] .ends u [] p stop-end tt) (rules-ended [] .ends s [] (suc e) stop-end tt))
+two-texts m s p n h = rw cut (two-judged u s p (suc e) n _ _ (rules m u p) (rules m s (suc e)) warnings (rules-ended m [] .ends u [] p stop-end tt) (rules-ended m [] .ends s [] (suc e) stop-end tt))
   where
     e : ℕ
     e = partEnd s p
@@ -135,20 +136,20 @@ two-texts s p n h = rw cut (two-judged u s p (suc e) n _ _ (rules u p) (rules s 
     before : p ≤ length u
     before = omega (arith, size, part-begin s p)
 
-    cut : rules s p ≡ joined (rules u p) (rules s (suc e))
+    cut : rules m s p ≡ joined (rules m u p) (rules m s (suc e))
     cut =
-        ap (λ z. rules z p) split
-        ∙ rules-cut u t p (record { fits = before; side = end-paired s p h })
-        ∙ ap (λ z. joined (rules u p) (rules z (suc (length u)))) (sym split)
-        ∙ ap (λ k. joined (rules u p) (rules s (suc k))) size
+        ap (λ z. rules m z p) split
+        ∙ rules-cut m u t p (record { fits = before; side = end-paired s p h })
+        ∙ ap (λ z. joined (rules m u p) (rules m z (suc (length u)))) (sym split)
+        ∙ ap (λ k. joined (rules m u p) (rules m s (suc k))) size
 
     warnings : warningsOf (drop p s) ≡ warningsOf (drop p u) + warningsOf (drop (suc e) s)
     warnings = ap (λ z. warningsOf (drop p z)) split ∙ ap warningsOf (drop-append-le p u (59 ∷ t) before) ∙ warnings-two (drop p u) t (end-paired s p h)
 
 -- an accepted text's records are held
-text-fits : (s : List ℕ) (p n : ℕ) → textOf s p n .0 .number ≡ 0 → textOf s p n .0 .records ≤ n / 16
+text-fits : (m : Manner) (s : List ℕ) (p n : ℕ) → textOf m s p n .0 .number ≡ 0 → textOf m s p n .0 .records ≤ n / 16
 unfolding textOf
-text-fits s p n = go (rules s p)
+text-fits m s p n = go (rules m s p)
   where
     go : (x : Read (List Rule × Unit {0})) → judgedText s p n x .0 .number ≡ 0 → judgedText s p n x .0 .records ≤ n / 16
     go (got l j) e = let h = kept-fits n p (records (l .0)) (warningsOf (drop p s)) e in rw (le-ltb (n / 16) (length (records (l .0))) h) h
@@ -191,49 +192,49 @@ module _ {n : ℕ} {r : Reading} (part : ℕ → PartReading) (p : ℕ) where
       }
 
 -- the part that begins at p
-part-is : (s : List ℕ) (p n : ℕ) → length s ≤ 4096 → begins s p ≡ true → partOf s p n ≡ partTo s p n (partEnd s p)
-unfolding partOf
-part-is s p n h b = rw (le-ltb 4096 (length s) h, b)
+part-is : (m : Manner) (s : List ℕ) (p n : ℕ) → length s ≤ 4096 → begins s p ≡ true → partBy m s p n ≡ partTo m s p n (partEnd s p)
+unfolding partBy
+part-is m s p n h b = rw (le-ltb 4096 (length s) h, b)
 
 -- where it is not the last
-pub part-more : (s : List ℕ) (p n : ℕ) → length s ≤ 4096 → begins s p ≡ true → partEnd s p < length s → partOf s p n ≡ parting (textOf (take (partEnd s p) s) p n) (suc (partEnd s p)) false
+pub part-more : (m : Manner) (s : List ℕ) (p n : ℕ) → length s ≤ 4096 → begins s p ≡ true → partEnd s p < length s → partBy m s p n ≡ parting (textOf m (take (partEnd s p) s) p n) (suc (partEnd s p)) false
 unfolding withNext
-part-more s p n h b l = part-is s p n h b ∙ rw (lt-ltb (partEnd s p) (length s) l)
+part-more m s p n h b l = part-is m s p n h b ∙ rw (lt-ltb (partEnd s p) (length s) l)
 
 -- where it is
-pub part-last : (s : List ℕ) (p n : ℕ) → length s ≤ 4096 → begins s p ≡ true → length s ≤ partEnd s p → partOf s p n ≡ parting (textOf s p n) 0 true
+pub part-last : (m : Manner) (s : List ℕ) (p n : ℕ) → length s ≤ 4096 → begins s p ≡ true → length s ≤ partEnd s p → partBy m s p n ≡ parting (textOf m s p n) 0 true
 unfolding withNext
-part-last s p n h b l = part-is s p n h b ∙ rw (le-ltb (partEnd s p) (length s) l, take-all (partEnd s p) s l)
+part-last m s p n h b l = part-is m s p n h b ∙ rw (le-ltb (partEnd s p) (length s) l, take-all (partEnd s p) s l)
 
 -- from a part on, by the bytes that are left
-together-from : (k : ℕ) (s : List ℕ) (p n : ℕ) → length s ≤ 4096 → begins s p ≡ true → length s < p + k → Together n (textOf s p n) (λ q. partOf s q n) (placesFrom s p)
-together-from zero s p n h b l = absurd (omega (arith, begins-fits s p b))
-together-from (suc k) s p n h b l = rw (places-next s p b) (go (decLt (partEnd s p) (length s)) (together-from k s (suc (partEnd s p)) n h))
+together-from : (m : Manner) (k : ℕ) (s : List ℕ) (p n : ℕ) → length s ≤ 4096 → begins s p ≡ true → length s < p + k → Together n (textOf m s p n) (λ q. partBy m s q n) (placesFrom s p)
+together-from m zero s p n h b l = absurd (omega (arith, begins-fits s p b))
+together-from m (suc k) s p n h b l = rw (places-next s p b) (go (decLt (partEnd s p) (length s)) (together-from m k s (suc (partEnd s p)) n h))
   where
-    go : Dec (partEnd s p < length s) → (begins s (suc (partEnd s p)) ≡ true → length s < suc (partEnd s p) + k → Together n (textOf s (suc (partEnd s p)) n) (λ q. partOf s q n) (placesFrom s (suc (partEnd s p)))) →
-        Together n (textOf s p n) (λ q. partOf s q n) (p ∷ placesFrom s (suc (partEnd s p)))
-    go (yes e) ih = together-more (λ q. partOf s q n) p (part-more s p n h b e) (two-texts s p n e) (ih (begins-next s p b e) (omega (arith, part-begin s p)))
-    go (no e) ih = rw (places-none s (suc (partEnd s p)) (omega arith)) (together-one (λ q. partOf s q n) p (part-last s p n h b (omega arith)) (text-fits s p n))
+    go : Dec (partEnd s p < length s) → (begins s (suc (partEnd s p)) ≡ true → length s < suc (partEnd s p) + k → Together n (textOf m s (suc (partEnd s p)) n) (λ q. partBy m s q n) (placesFrom s (suc (partEnd s p)))) →
+        Together n (textOf m s p n) (λ q. partBy m s q n) (p ∷ placesFrom s (suc (partEnd s p)))
+    go (yes e) ih = together-more (λ q. partBy m s q n) p (part-more m s p n h b e) (two-texts m s p n e) (ih (begins-next s p b e) (omega (arith, part-begin s p)))
+    go (no e) ih = rw (places-none s (suc (partEnd s p)) (omega arith)) (together-one (λ q. partBy m s q n) p (part-last m s p n h b (omega arith)) (text-fits m s p n))
 
 -- a sheet and its parts
-pub together : (s : List ℕ) (n : ℕ) → length s ≤ 4096 → Together n (sheetOf s n) (λ p. partOf s p n) (places s)
-unfolding sheetOf
-together s n h = rw (le-ltb 4096 (length s) h, places-all s) (together-from (suc (length s)) s 0 n h (sym (begins-first s 0 refl)) (omega arith))
+pub together : (m : Manner) (s : List ℕ) (n : ℕ) → length s ≤ 4096 → Together n (sheetBy m s n) (λ p. partBy m s p n) (places s)
+unfolding sheetBy
+together m s n h = rw (le-ltb 4096 (length s) h, places-all s) (together-from m (suc (length s)) s 0 n h (sym (begins-first s 0 refl)) (omega arith))
 
 -- in short, for a table of n words
-module _ (s : List ℕ) (n : ℕ) (h : length s ≤ 4096) where
+module _ (m : Manner) (s : List ℕ) (n : ℕ) (h : length s ≤ 4096) where
   -- where every part is accepted and the table holds all their records, the sheet is accepted
-  pub together-if : Every (λ p. partOf s p n .0 .number ≡ 0) (places s) → total (λ p. partOf s p n .0 .records) (places s) ≤ n / 16 → sheetOf s n .0 .number ≡ 0
-  together-if = together s n h .accepted
+  pub together-if : Every (λ p. partBy m s p n .0 .number ≡ 0) (places s) → total (λ p. partBy m s p n .0 .records) (places s) ≤ n / 16 → sheetBy m s n .0 .number ≡ 0
+  together-if = together m s n h .accepted
 
   -- and only there
-  pub together-only-if : sheetOf s n .0 .number ≡ 0 → Every (λ p. partOf s p n .0 .number ≡ 0) (places s) × (total (λ p. partOf s p n .0 .records) (places s) ≤ n / 16)
-  together-only-if e = (together s n h .every e, together s n h .holds e)
+  pub together-only-if : sheetBy m s n .0 .number ≡ 0 → Every (λ p. partBy m s p n .0 .number ≡ 0) (places s) × (total (λ p. partBy m s p n .0 .records) (places s) ≤ n / 16)
+  together-only-if e = (together m s n h .every e, together m s n h .holds e)
 
   -- with the parts' records in order
-  pub together-records : sheetOf s n .0 .number ≡ 0 → sheetOf s n .1 ≡ inOrder (λ p. partOf s p n .1) (places s)
-  together-records = together s n h .made
+  pub together-records : sheetBy m s n .0 .number ≡ 0 → sheetBy m s n .1 ≡ inOrder (λ p. partBy m s p n .1) (places s)
+  together-records = together m s n h .made
 
   -- and their counts added
-  pub together-counts : sheetOf s n .0 .number ≡ 0 → (sheetOf s n .0 .records ≡ total (λ p. partOf s p n .0 .records) (places s)) × (sheetOf s n .0 .warnings ≡ total (λ p. partOf s p n .0 .warnings) (places s))
-  together-counts e = (together s n h .counted e, together s n h .warned e)
+  pub together-counts : sheetBy m s n .0 .number ≡ 0 → (sheetBy m s n .0 .records ≡ total (λ p. partBy m s p n .0 .records) (places s)) × (sheetBy m s n .0 .warnings ≡ total (λ p. partBy m s p n .0 .warnings) (places s))
+  together-counts e = (together m s n h .counted e, together m s n h .warned e)

@@ -7,12 +7,13 @@ use native.Mathlib.Nat.{suc-mul, mul-assoc, mul-le-mul-right, le-trans}
 use lib.IntN.{ℤ}
 use lib.ListN.{length, set, length-append, length-set}
 use lib.Seq.{sets, length-sets}
+use Rattle.names.specs.declared.Manner.{Manner}
 use Rattle.records.specs.Bytes.{littleEndian, wordBytes, recordBytes}
 use Rattle.records.proofs.Stores.{length-bytes}
 use Rattle.records.proofs.Cells.{Sixteen}
 use Rattle.records.specs.Tables.{Layout, asBytes, laid}
-use Rattle.sheet.specs.Sheets.{writtenAs, sheetOf, sheetReading, wordsIn, sheetReadingBytes}
-use Rattle.sheet.specs.PartReadings.{partOf, partReading, partReadingBytes}
+use Rattle.sheet.specs.Sheets.{writtenAs, sheetBy, sheetReadingBy, wordsIn, sheetReadingBytesBy}
+use Rattle.sheet.specs.PartReadings.{partBy, partReadingBy, partReadingBytesBy}
 use Rattle.sheet.proofs.Readings.{part-held, sheet-held}
 use Rattle.demands.specs.Bytes.{BytesOfWords}
 
@@ -64,34 +65,34 @@ pub each-sixteen : (rs : List (List ℤ)) → Sixteen rs → Each 16 rs
 each-sixteen [] h = tt
 each-sixteen (r ∷ rs) h = (h .0, each-sixteen rs (h .1))
 
--- a table of bytes that are the bytes of a table of m records, and fewer than a record's behind them
-module _ (w : List ℤ) (rest : List ℕ) (m : ℕ) (e : length w ≡ m * 16) (h : length rest < 64) where
+-- a table of bytes that are the bytes of a table of k records, and fewer than a record's behind them
+module _ (w : List ℤ) (rest : List ℕ) (k : ℕ) (e : length w ≡ k * 16) (h : length rest < 64) where
   -- has the same room
   room : wordsIn (length (recordBytes w ++ rest)) ≡ length w
   room = rw (length-append, length-bytes w) (omega arith)
 
   -- after a sheet is read: the same numbers, the bytes of the table of words afterwards, and the same bytes behind them
-  pub sheet-as-words : (s : List ℕ) → sheetReadingBytes s (recordBytes w ++ rest) ≡ (sheetReading s w .0, recordBytes (sheetReading s w .1) ++ rest)
-  unfolding sheetReadingBytes sheetReading
-  sheet-as-words s =
+  pub sheet-as-words : (m : Manner) (s : List ℕ) → sheetReadingBytesBy m s (recordBytes w ++ rest) ≡ (sheetReadingBy m s w .0, recordBytes (sheetReadingBy m s w .1) ++ rest)
+  unfolding sheetReadingBytesBy sheetReadingBy
+  sheet-as-words m s =
       let t : List ℕ = recordBytes w ++ rest in
-      let q = sheet-held s (length w) in
-      ap (λ (n : ℕ). writtenAs asBytes t (sheetOf s n)) room
-      ∙ ap (λ (l : List ℕ). (sheetOf s (length w) .0, l)) (laid-bytes rest 16 (sheetOf s (length w) .1) w 0 (each-sixteen (sheetOf s (length w) .1) (q .long)) (omega (arith, q .room)))
+      let q = sheet-held m s (length w) in
+      ap (λ (n : ℕ). writtenAs asBytes t (sheetBy m s n)) room
+      ∙ ap (λ (l : List ℕ). (sheetBy m s (length w) .0, l)) (laid-bytes rest 16 (sheetBy m s (length w) .1) w 0 (each-sixteen (sheetBy m s (length w) .1) (q .long)) (omega (arith, q .room)))
 
   -- and after a part is
-  pub part-as-words : (s : List ℕ) (p : ℕ) → partReadingBytes s p (recordBytes w ++ rest) ≡ (partReading s p w .0, recordBytes (partReading s p w .1) ++ rest)
-  unfolding partReadingBytes partReading
-  part-as-words s p =
+  pub part-as-words : (m : Manner) (s : List ℕ) (p : ℕ) → partReadingBytesBy m s p (recordBytes w ++ rest) ≡ (partReadingBy m s p w .0, recordBytes (partReadingBy m s p w .1) ++ rest)
+  unfolding partReadingBytesBy partReadingBy
+  part-as-words m s p =
       let t : List ℕ = recordBytes w ++ rest in
-      let q = part-held s p (length w) in
-      ap (λ (n : ℕ). writtenAs asBytes t (partOf s p n)) room
-      ∙ ap (λ (l : List ℕ). (partOf s p (length w) .0, l)) (laid-bytes rest 16 (partOf s p (length w) .1) w 0 (each-sixteen (partOf s p (length w) .1) (q .long)) (omega (arith, q .room)))
+      let q = part-held m s p (length w) in
+      ap (λ (n : ℕ). writtenAs asBytes t (partBy m s p n)) room
+      ∙ ap (λ (l : List ℕ). (partBy m s p (length w) .0, l)) (laid-bytes rest 16 (partBy m s p (length w) .1) w 0 (each-sixteen (partBy m s p (length w) .1) (q .long)) (omega (arith, q .room)))
 
 -- so of every table of bytes (`bytes-of-words`)
 module _ {t : List ℕ} (b : BytesOfWords t) (s : List ℕ) where
-  pub sheet-in-bytes : sheetReadingBytes s t ≡ (sheetReading s (b .words) .0, recordBytes (sheetReading s (b .words) .1) ++ b .rest)
-  sheet-in-bytes = ap (sheetReadingBytes s) (sym (b .same)) ∙ sheet-as-words (b .words) (b .rest) (b .records) (b .whole) (b .short) s
+  pub sheet-in-bytes : (m : Manner) → sheetReadingBytesBy m s t ≡ (sheetReadingBy m s (b .words) .0, recordBytes (sheetReadingBy m s (b .words) .1) ++ b .rest)
+  sheet-in-bytes m = ap (sheetReadingBytesBy m s) (sym (b .same)) ∙ sheet-as-words (b .words) (b .rest) (b .records) (b .whole) (b .short) m s
 
-  pub part-in-bytes : (p : ℕ) → partReadingBytes s p t ≡ (partReading s p (b .words) .0, recordBytes (partReading s p (b .words) .1) ++ b .rest)
-  part-in-bytes p = ap (partReadingBytes s p) (sym (b .same)) ∙ part-as-words (b .words) (b .rest) (b .records) (b .whole) (b .short) s p
+  pub part-in-bytes : (m : Manner) (p : ℕ) → partReadingBytesBy m s p t ≡ (partReadingBy m s p (b .words) .0, recordBytes (partReadingBy m s p (b .words) .1) ++ b .rest)
+  part-in-bytes m p = ap (partReadingBytesBy m s p) (sym (b .same)) ∙ part-as-words (b .words) (b .rest) (b .records) (b .whole) (b .short) m s p

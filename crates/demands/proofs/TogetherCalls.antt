@@ -8,10 +8,11 @@ use native.Mathlib.Nat.{add-zero}
 use native.Mathlib.Decide.{decLt}
 use lib.IntN.{ℤ}
 use lib.ListN.{length}
+use Rattle.names.specs.declared.Manner.{Manner}
 use Rattle.records.specs.Tables.{Layout, laid}
 use Rattle.sheet.specs.Parts.{partEnd, begins, places}
-use Rattle.sheet.specs.Sheets.{writtenAs, sheetOf}
-use Rattle.sheet.specs.PartReadings.{partOf}
+use Rattle.sheet.specs.Sheets.{writtenAs, sheetBy}
+use Rattle.sheet.specs.PartReadings.{partBy}
 use Rattle.sheet.proofs.Laws.{part-begin, begins-first}
 use Rattle.sheet.proofs.PartLaws.{begins-fits, begins-next}
 use Rattle.demands.specs.Together.{inOrder, writtenOver, TogetherCalls, walk}
@@ -34,32 +35,32 @@ module _ {A : Type 0} (d : Layout A) where
   written-all f t k (p ∷ ps) = written-all f (laid d t k (f p)) (k + length (f p)) ps ∙ laid-append (f p) (inOrder f ps) t k
 
   -- a sheet and its parts, called with a table that has room for n words
-  pub together-called : (s : List ℕ) (n : ℕ) (t : List A) → length s ≤ 4096 →
-      TogetherCalls d n t (writtenAs d t (sheetOf s n)) (λ p. writtenAs d t (partOf s p n)) (λ p. partOf s p n .1) (places s)
-  together-called s n t h =
-      let w = together s n h in
+  pub together-called : (m : Manner) (s : List ℕ) (n : ℕ) (t : List A) → length s ≤ 4096 →
+      TogetherCalls d n t (writtenAs d t (sheetBy m s n)) (λ p. writtenAs d t (partBy m s p n)) (λ p. partBy m s p n .1) (places s)
+  together-called m s n t h =
+      let w = together m s n h in
       record {
         accepted = w .accepted;
         every = w .every;
         holds = w .holds;
         counted = w .counted;
         warned = w .warned;
-        made = λ e. ap (laid d t 0) (w .made e) ∙ sym (written-all (λ p. partOf s p n .1) t 0 (places s));
+        made = λ e. ap (laid d t 0) (w .made e) ∙ sym (written-all (λ p. partBy m s p n .1) t 0 (places s));
         parts = λ p. refl;
       }
 
 -- ---- the places of all parts
 
 -- from a part on, by the bytes that are left
-walk-from : (k : ℕ) (s : List ℕ) (p n : ℕ) → length s ≤ 4096 → begins s p ≡ true → length s < p + k → walk (λ q. partOf s q n .0) k p ≡ placesFrom s p
-walk-from zero s p n h b l = absurd (omega (arith, begins-fits s p b))
-walk-from (suc k) s p n h b l = rw (places-next s p b) (go (decLt (partEnd s p) (length s)) (walk-from k s (suc (partEnd s p)) n h))
+walk-from : (m : Manner) (k : ℕ) (s : List ℕ) (p n : ℕ) → length s ≤ 4096 → begins s p ≡ true → length s < p + k → walk (λ q. partBy m s q n .0) k p ≡ placesFrom s p
+walk-from m zero s p n h b l = absurd (omega (arith, begins-fits s p b))
+walk-from m (suc k) s p n h b l = rw (places-next s p b) (go (decLt (partEnd s p) (length s)) (walk-from m k s (suc (partEnd s p)) n h))
   where
-    go : Dec (partEnd s p < length s) → (begins s (suc (partEnd s p)) ≡ true → length s < suc (partEnd s p) + k → walk (λ q. partOf s q n .0) k (suc (partEnd s p)) ≡ placesFrom s (suc (partEnd s p))) →
-        walk (λ q. partOf s q n .0) (suc k) p ≡ p ∷ placesFrom s (suc (partEnd s p))
-    go (yes e) ih = rw (part-more s p n h b e, ih (begins-next s p b e) (omega (arith, part-begin s p)))
-    go (no e) ih = rw (part-last s p n h b (omega arith), places-none s (suc (partEnd s p)) (omega arith))
+    go : Dec (partEnd s p < length s) → (begins s (suc (partEnd s p)) ≡ true → length s < suc (partEnd s p) + k → walk (λ q. partBy m s q n .0) k (suc (partEnd s p)) ≡ placesFrom s (suc (partEnd s p))) →
+        walk (λ q. partBy m s q n .0) (suc k) p ≡ p ∷ placesFrom s (suc (partEnd s p))
+    go (yes e) ih = rw (part-more m s p n h b e, ih (begins-next s p b e) (omega (arith, part-begin s p)))
+    go (no e) ih = rw (part-last m s p n h b (omega arith), places-none s (suc (partEnd s p)) (omega arith))
 
 -- the calls that begin at 0 and go on where each says that the next part is, until one says that it was the last, read all parts of the sheet
-pub called-places : (s : List ℕ) (n : ℕ) → length s ≤ 4096 → walk (λ p. partOf s p n .0) (suc (length s)) 0 ≡ places s
-called-places s n h = walk-from (suc (length s)) s 0 n h (sym (begins-first s 0 refl)) (omega arith) ∙ sym (places-all s)
+pub called-places : (m : Manner) (s : List ℕ) (n : ℕ) → length s ≤ 4096 → walk (λ p. partBy m s p n .0) (suc (length s)) 0 ≡ places s
+called-places m s n h = walk-from m (suc (length s)) s 0 n h (sym (begins-first s 0 refl)) (omega arith) ∙ sym (places-all s)

@@ -11,6 +11,7 @@ use lib.Seq.{getD-append-seam, getD-append-add}
 use borrow.Author.Tests.{ne-eqb}
 use Rattle.names.specs.Tests.{if_then_else_}
 use Rattle.sheet.specs.Sheets.{refusal, sheetOf}
+use Rattle.names.specs.declared.Manner.the-variants.{First}
 use Rattle.sheet.proofs.Readings.{sheet-held}
 use Rattle.feed.specs.Lines.{inFirst, lines}
 use Rattle.feed.specs.Feeds.{Reading, readings}
@@ -139,7 +140,7 @@ module _ (ls x : List (List ℕ)) (n : ℕ) where
   room-same l l′ e k = go (decLt (length ls) k)
     where
       many : length (sheetOf l′ here .1) ≡ length (sheetOf l here .1)
-      many = sym (sheet-held l′ here .many) ∙ e ∙ sheet-held l here .many
+      many = sym (sheet-held First l′ here .many) ∙ e ∙ sheet-held First l here .many
 
       past : (i : ℕ) → roomFor (ls ++ (l′ ∷ x)) n (length ls + suc i) ≡ roomFor (ls ++ (l ∷ x)) n (length ls + suc i)
       past i = room-after ls x l′ n i ∙ ap (λ (c : ℕ). roomFor x (here - c * 16) i) many ∙ sym (room-after ls x l n i)
@@ -189,7 +190,7 @@ within-line p a x y b q w n =
     let new : NoTen (a ++ (y ++ b)) = both a (y ++ b) (front a (x ++ b) (w .line)) (both y b (w .no-ten) (back x b (back a (x ++ b) (w .line)))) in
     record {
       feed = left-lines (lines p) (following q) n (a ++ (x ++ b)) (a ++ (y ++ b)) _ _ (line-split p (a ++ (x ++ b)) q (w .starts) (w .line) (w .ends)) (line-split p (a ++ (y ++ b)) q (w .starts) new (w .stays));
-      parts = exchange (w .exchanged);
+      parts = exchange (w .exchanged) First;
       no-others = exchange-others (w .exchanged);
     }
 

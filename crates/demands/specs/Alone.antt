@@ -5,8 +5,9 @@ use Prim.Native.Nat.{ℕ, _-_}
 use mathlib.Core.List.{List}
 use lib.IntN.{ℤ}
 use lib.ListN.{take, drop}
+use Rattle.names.specs.declared.Manner.{Manner}
 use Rattle.sheet.specs.Parts.{partEnd}
-use Rattle.sheet.specs.Sheets.{sheetOf}
+use Rattle.sheet.specs.Sheets.{sheetBy}
 use Rattle.sheet.specs.PartReadings.{withNext}
 use Rattle.sheet.specs.declared.Answer.{Answer}
 use Rattle.sheet.specs.declared.PartAnswer.{PartAnswer}
@@ -17,9 +18,9 @@ abbrev pub partBytes : List ℕ → ℕ → List ℕ
 partBytes s p = take (partEnd s p - p) (drop p s)
 
 -- the answer and the records of those bytes alone, read as a sheet, with their places counted from the start of s
-abbrev pub readAlone : List ℕ → ℕ → ℕ → Answer × List (List ℤ)
-readAlone s p n = movedReading p (sheetOf (partBytes s p) n)
+abbrev pub readAlone : Manner → List ℕ → ℕ → ℕ → Answer × List (List ℤ)
+readAlone m s p n = movedReading p (sheetBy m (partBytes s p) n)
 
 -- what the part then comes to
-abbrev pub partAlone : List ℕ → ℕ → ℕ → PartAnswer × List (List ℤ)
-partAlone s p n = (withNext s (partEnd s p) (readAlone s p n .0), readAlone s p n .1)
+abbrev pub partAlone : Manner → List ℕ → ℕ → ℕ → PartAnswer × List (List ℤ)
+partAlone m s p n = (withNext s (partEnd s p) (readAlone m s p n .0), readAlone m s p n .1)

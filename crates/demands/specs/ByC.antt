@@ -3,11 +3,12 @@ use Prim.Native.Nat.{ℕ}
 use mathlib.Core.List.{List}
 use lib.Dec.{eqb}
 use lib.ListN.{getD}
+use Rattle.names.specs.declared.Manner.{Manner}
 use Rattle.sheet.specs.Sheets.{answerOf}
 use Rattle.sheet.specs.PartReadings.{partAnswerOf}
 use Rattle.sheet.specs.declared.Answer.{Answer}
 use Rattle.sheet.specs.declared.PartAnswer.{PartAnswer}
-use Rattle.entries.specs.Calls.{sheetCall, partCall}
+use Rattle.entries.specs.Calls.{sheetCallBy, partCallBy}
 
 -- number, place, records, warnings
 abbrev pub answerIn : List ℕ → Answer
@@ -18,9 +19,9 @@ abbrev pub partAnswerIn : List ℕ → PartAnswer
 partAnswerIn l = partAnswerOf (answerIn l) (getD l 4 0) (eqb (getD l 5 0) 1)
 
 -- of a sheet
-abbrev pub sheetByC : List ℕ → List ℕ → Answer × List ℕ
-sheetByC s t = (answerIn (sheetCall s t .0), sheetCall s t .1)
+abbrev pub sheetByC : Manner → List ℕ → List ℕ → Answer × List ℕ
+sheetByC m s t = (answerIn (sheetCallBy m s t .0), sheetCallBy m s t .1)
 
 -- of a part
-abbrev pub partByC : List ℕ → ℕ → List ℕ → PartAnswer × List ℕ
-partByC s p t = (partAnswerIn (partCall s p t .0), partCall s p t .1)
+abbrev pub partByC : Manner → List ℕ → ℕ → List ℕ → PartAnswer × List ℕ
+partByC m s p t = (partAnswerIn (partCallBy m s p t .0), partCallBy m s p t .1)

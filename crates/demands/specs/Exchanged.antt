@@ -9,11 +9,12 @@ use mathlib.Core.Bool.{true, false}
 use mathlib.Core.Path.{_≡_}
 use lib.IntN.{ℤ}
 use lib.ListN.{length}
+use Rattle.names.specs.declared.Manner.{Manner}
 use Rattle.names.specs.Quotes.{insideOf}
 use Rattle.records.specs.Tables.{Layout}
 use Rattle.sheet.specs.Parts.{begins, partIn, partEnd}
 use Rattle.sheet.specs.Sheets.{writtenAs}
-use Rattle.sheet.specs.PartReadings.{partOf}
+use Rattle.sheet.specs.PartReadings.{partBy}
 use Rattle.demands.specs.Moved.{movedPart}
 use Rattle.sheet.specs.declared.PartAnswer.{PartAnswer}
 
@@ -27,10 +28,10 @@ pub record Exchanged (a x y b : List ℕ) : Type 0 where
   pub quoted : partIn false y ≡ length y
 
 -- what the exchange leaves of the part that begins at a place of the first sheet, for tables of n words: a part of the second
-pub data Left (a x y b : List ℕ) (n : ℕ) : ℕ → Type 0 where
-  before : {p : ℕ} → p < length a → begins (a ++ (y ++ b)) p ≡ true → partOf (a ++ (y ++ b)) p n ≡ partOf (a ++ (x ++ b)) p n → Left a x y b n p
+pub data Left (m : Manner) (a x y b : List ℕ) (n : ℕ) : ℕ → Type 0 where
+  before : {p : ℕ} → p < length a → begins (a ++ (y ++ b)) p ≡ true → partBy m (a ++ (y ++ b)) p n ≡ partBy m (a ++ (x ++ b)) p n → Left m a x y b n p
   behind : (r : ℕ) → 0 < r → begins (a ++ (y ++ b)) (length a + length y + r) ≡ true →
-      movedPart (length y) (partOf (a ++ (x ++ b)) (length a + length x + r) n) ≡ movedPart (length x) (partOf (a ++ (y ++ b)) (length a + length y + r) n) → Left a x y b n (length a + length x + r)
+      movedPart (length y) (partBy m (a ++ (x ++ b)) (length a + length x + r) n) ≡ movedPart (length x) (partBy m (a ++ (y ++ b)) (length a + length y + r) n) → Left m a x y b n (length a + length x + r)
 
 -- what the part that begins at a place of the second sheet was: a part of the first
 pub data Was (a x y b : List ℕ) : ℕ → Type 0 where
@@ -38,7 +39,7 @@ pub data Was (a x y b : List ℕ) : ℕ → Type 0 where
   behind : (r : ℕ) → 0 < r → begins (a ++ (x ++ b)) (length a + length x + r) ≡ true → Was a x y b (length a + length y + r)
 
 -- what the exchange leaves of a call `read` for the part that begins at a place of the first sheet: tables have room for n words, and t is lent to the second
-pub data LeftCall {A : Type 0} (d : Layout A) (read : List ℕ → ℕ → List A → PartAnswer × List A) (n : ℕ) (t : List A) (a x y b : List ℕ) : ℕ → Type 0 where
-  before : {p : ℕ} → p < length a → read (a ++ (y ++ b)) p t ≡ writtenAs d t (partOf (a ++ (x ++ b)) p n) → LeftCall d read n t a x y b p
-  behind : (r : ℕ) (shifted : PartAnswer × List (List ℤ)) → 0 < r → movedPart (length y) (partOf (a ++ (x ++ b)) (length a + length x + r) n) ≡ movedPart (length x) shifted →
-      read (a ++ (y ++ b)) (length a + length y + r) t ≡ writtenAs d t shifted → LeftCall d read n t a x y b (length a + length x + r)
+pub data LeftCall {A : Type 0} (m : Manner) (d : Layout A) (read : List ℕ → ℕ → List A → PartAnswer × List A) (n : ℕ) (t : List A) (a x y b : List ℕ) : ℕ → Type 0 where
+  before : {p : ℕ} → p < length a → read (a ++ (y ++ b)) p t ≡ writtenAs d t (partBy m (a ++ (x ++ b)) p n) → LeftCall m d read n t a x y b p
+  behind : (r : ℕ) (shifted : PartAnswer × List (List ℤ)) → 0 < r → movedPart (length y) (partBy m (a ++ (x ++ b)) (length a + length x + r) n) ≡ movedPart (length x) shifted →
+      read (a ++ (y ++ b)) (length a + length y + r) t ≡ writtenAs d t shifted → LeftCall m d read n t a x y b (length a + length x + r)

@@ -7,3 +7,4 @@ pub mod ByC
 pub mod Bytes
 pub mod Feeds
 pub mod Within
+pub mod Editions

@@ -10,6 +10,7 @@ use mathlib.Core.Path.{_≡_}
 use lib.ListN.{length}
 use Rattle.sheet.specs.Parts.{begins}
 use Rattle.feed.specs.Lines.{lines}
+use Rattle.names.specs.declared.Manner.the-variants.{First}
 use Rattle.demands.specs.Exchanged.{Exchanged, Left, Was}
 use Rattle.demands.specs.Feeds.{roomFor, lineRead}
 
@@ -48,5 +49,5 @@ pub record LeftLines (old new : List ℕ) (j n : ℕ) : Type 0 where
 -- and of that line: each other part of it, for a table of m words; it has no others afterwards
 pub record LeftWithin (p a x y b q : List ℕ) (n : ℕ) : Type 0 where
   pub feed : LeftLines (p ++ ((a ++ (x ++ b)) ++ q)) (p ++ ((a ++ (y ++ b)) ++ q)) (length (lines p)) n
-  pub parts : (place m : ℕ) → begins (a ++ (x ++ b)) place ≡ true → place ≢ length a → Left a x y b m place
+  pub parts : (place m : ℕ) → begins (a ++ (x ++ b)) place ≡ true → place ≢ length a → Left First a x y b m place
   pub no-others : (place : ℕ) → begins (a ++ (y ++ b)) place ≡ true → place ≢ length a → Was a x y b place

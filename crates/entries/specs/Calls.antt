@@ -3,8 +3,11 @@ use Prim.Native.Nat.{ℕ}
 use mathlib.Core.List.{List, [], _∷_}
 use mathlib.Core.Bool.{Bool, true, false}
 use lib.IntN.{ℤ}
-use Rattle.sheet.specs.Sheets.{sheetReadingBytes}
-use Rattle.sheet.specs.PartReadings.{partReadingBytes}
+use Rattle.names.specs.declared.Manner.{Manner}
+use Rattle.names.specs.declared.Manner.the-variants.{First}
+use Rattle.sheet.specs.Sheets.{sheetReadingBytesBy}
+use Rattle.sheet.specs.PartReadings.{partReadingBytesBy}
+use Rattle.sheet.specs.Editions.{sheetReadingBytesIn, partReadingBytesIn}
 use Rattle.sheet.specs.Notes.{notePart}
 use Rattle.sheet.specs.declared.Answer.{Answer}
 use Rattle.sheet.specs.declared.PartAnswer.{PartAnswer}
@@ -33,12 +36,28 @@ abbrev pub feedNumbers : FeedAnswer → List ℕ
 feedNumbers a = a.number ∷ a.lines ∷ a.records ∷ []
 
 -- a sheet s is read into a table t: the numbers of the reading with room for as many records as t has whole 64 bytes, and the bytes of its records
-unfoldable pub sheetCall : List ℕ → List ℕ → List ℕ × List ℕ
-sheetCall s t = (sheetNumbers (sheetReadingBytes s t .0), sheetReadingBytes s t .1)
+unfoldable pub sheetCallBy : Manner → List ℕ → List ℕ → List ℕ × List ℕ
+sheetCallBy m s t = (sheetNumbers (sheetReadingBytesBy m s t .0), sheetReadingBytesBy m s t .1)
+
+-- by the first edition
+abbrev pub sheetCall : List ℕ → List ℕ → List ℕ × List ℕ
+sheetCall = sheetCallBy First
+
+-- in an edition
+unfoldable pub sheetCallIn : ℕ → List ℕ → List ℕ → List ℕ × List ℕ
+sheetCallIn edition s t = (sheetNumbers (sheetReadingBytesIn edition s t .0), sheetReadingBytesIn edition s t .1)
 
 -- the part that begins at p is read
-unfoldable pub partCall : List ℕ → ℕ → List ℕ → List ℕ × List ℕ
-partCall s p t = (partNumbers (partReadingBytes s p t .0), partReadingBytes s p t .1)
+unfoldable pub partCallBy : Manner → List ℕ → ℕ → List ℕ → List ℕ × List ℕ
+partCallBy m s p t = (partNumbers (partReadingBytesBy m s p t .0), partReadingBytesBy m s p t .1)
+
+-- by the first edition
+abbrev pub partCall : List ℕ → ℕ → List ℕ → List ℕ × List ℕ
+partCall = partCallBy First
+
+-- in an edition
+unfoldable pub partCallIn : ℕ → List ℕ → ℕ → List ℕ → List ℕ × List ℕ
+partCallIn edition s p t = (partNumbers (partReadingBytesIn edition s p t .0), partReadingBytesIn edition s p t .1)
 
 -- the note for a comment's start and length, in a sheet and beside a standing note of so many bytes
 unfoldable pub noteCall : ℕ → ℕ → ℤ → ℤ → List ℕ

@@ -18,6 +18,7 @@ use Rattle.records.proofs.Keeps.{all-append}
 use Rattle.sheet.specs.Sheets.{sheetOf, wordsIn}
 use Rattle.sheet.specs.Into.{into}
 use Rattle.sheet.specs.declared.Answer.{Answer}
+use Rattle.names.specs.declared.Manner.the-variants.{First}
 use Rattle.sheet.proofs.Readings.{sheet-held}
 use Rattle.sheet.proofs.Bounds.{sheet-small}
 use Rattle.feed.specs.Lines.{lines}
@@ -36,8 +37,8 @@ pub record Told (m size : ℕ) (a : Answer) : Type 0 where
 
 pub told : (t : Tables) (m size : ℕ) (l : List ℕ) {a : Answer} {t′ : Tables} → m * 16 ≤ size → (a, t′) ≡ lineInto t m (sheetOf l (size - m * 16)) → Told m size a
 told t m size l h e =
-    let s = sheet-small l (size - m * 16) in
-    let k = sheet-held l (size - m * 16) in
+    let s = sheet-small First l (size - m * 16) in
+    let k = sheet-held First l (size - m * 16) in
     rw (ap (λ (x : Answer × Tables). x .0) e) (record { small = record { place = s .place; records = s .records; warnings = s .warnings }; room = omega (arith, k .many, k .room) })
 
 -- the part of a table from a place on, put back
@@ -46,7 +47,7 @@ part-back t x w h = rw (post-is w (length t) t h, drop-length t, append-nil x)
 
 -- its records have the room that was left
 pub line-room : (l : List ℕ) (n : ℕ) → sheetOf l n .0 .records * 16 ≤ n
-line-room l n = let h = sheet-held l n in omega (arith, h .many, h .room)
+line-room l n = let h = sheet-held First l n in omega (arith, h .many, h .room)
 
 -- it is read into what is free of the tables from slot k on
 pub line-from : (words : List ℤ) (bytes : List ℕ) (k w b : ℕ) (r : Reading) {a : Answer} {x : List ℤ} {y : List ℕ} →
@@ -90,7 +91,7 @@ up-more : (u t : Tables) (k m size : ℕ) (l : List ℕ) (ls : List (List ℕ)) 
     let r = sheetOf l (size - m * 16) in
     upTo u t k m (readings (l ∷ ls) (size - m * 16)) ≡ upTo (answerKept u k (answerWords (r .0))) (allKept t m (r .1)) (k + 1) (m + r .0 .records) (readings ls (size - (m + r .0 .records) * 16))
 unfolding readings keptAll
-up-more u t k m size l ls = let n = size - m * 16 in go (sheetOf l n) (sheetOf l n .0 .records) (sheet-held l n .many)
+up-more u t k m size l ls = let n = size - m * 16 in go (sheetOf l n) (sheetOf l n .0 .records) (sheet-held First l n .many)
   where
     go : (r : Reading) (c : ℕ) → c ≡ length (r .1) →
         upTo u t k m (r ∷ readings ls (size - m * 16 - length (r .1) * 16)) ≡ upTo (answerKept u k (answerWords (r .0))) (allKept t m (r .1)) (k + 1) (m + c) (readings ls (size - (m + c) * 16))
@@ -132,7 +133,7 @@ unfolding readings
 readings-fit [] n = omega arith
 readings-fit (l ∷ ls) n =
     let r = sheetOf l n in
-    let h = sheet-held l n .room in
+    let h = sheet-held First l n .room in
     let k = readings-fit ls (n - length (r .1) * 16) in
     rw (length-append (r .1) (recordsOf (readings ls (n - length (r .1) * 16)))) (omega arith)
 

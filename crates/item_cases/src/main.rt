@@ -13,6 +13,7 @@ use items::look_at;
 use libc::STDIN_FILENO;
 use libc::STDOUT_FILENO;
 use names::Cursor;
+use names::Manner;
 use prints::size;
 use records::words_of;
 
@@ -120,7 +121,7 @@ fn find(s: &[u8], from: usize, b: u8) -> usize
 
 // Whether an item is read as it should be; if not, what it gives is written.
 fn right(kind: u8, text: &[u8], answer: &[u8]) -> bool {
-    let t = shown(look_at(text, Cursor { at: 0 }, kind_of(kind)));
+    let t = shown(look_at(text, Manner::First, Cursor { at: 0 }, kind_of(kind)));
     let bytes = t.bytes;
     // (`count` says that the length is within the bytes.)
     let n = io::count(t.len as isize, &bytes);

@@ -2,6 +2,7 @@
 use Prim.Native.Nat.{ℕ}
 use mathlib.Core.List.{List}
 use mathlib.Core.Path.{_≡_, refl, ap}
+use Rattle.names.specs.declared.Manner.{Manner}
 use Rattle.items.specs.Kinds.{Placed}
 use Rattle.items.specs.Seen.{Standing}
 use Rattle.items.specs.declared.Kind.{Kind}
@@ -9,20 +10,20 @@ use Rattle.items.specs.declared.Stands.{Stands}
 use Rattle.items.specs.declared.Stands.the-variants.{Item, Refused, Name, Nothing}
 
 -- two answers about one place are one
-pub standing-apart : (ks : List Kind) (s : List ℕ) (i : ℕ) (x y : Stands) → Standing ks s i x → Standing ks s i y → x ≡ y
-standing-apart ks s i (Item a p k c) (Item b q l d) e f = let h : c .at ≡ d .at = cc in let z : _≡_ {A = Placed × Kind} ((a, p), k) ((b, q), l) = cc in rw (ap (λ (x : Placed × Kind). x .0 .0) z, ap (λ (x : Placed × Kind). x .0 .1) z, ap (λ (x : Placed × Kind). x .1) z, h)
-standing-apart ks s i (Item a p k c) (Refused n r) e f = cc
-standing-apart ks s i (Item a p k c) (Name n v d) e f = cc
-standing-apart ks s i (Item a p k c) Nothing e f = cc
-standing-apart ks s i (Refused n p) (Item b q l d) e f = cc
-standing-apart ks s i (Refused n p) (Refused m q) e f = cc
-standing-apart ks s i (Refused n p) (Name m v d) e f = cc
-standing-apart ks s i (Refused n p) Nothing e f = cc
-standing-apart ks s i (Name n v c) (Item b q l d) e f = cc
-standing-apart ks s i (Name n v c) (Refused m q) e f = cc
-standing-apart ks s i (Name n v c) (Name m w d) e f = let h : c .at ≡ d .at = cc in let z : _≡_ {A = ℕ × ℕ} (n, v) (m, w) = cc in rw (ap (λ (x : ℕ × ℕ). x .0) z, ap (λ (x : ℕ × ℕ). x .1) z, h)
-standing-apart ks s i (Name n v c) Nothing e f = cc
-standing-apart ks s i Nothing (Item b q l d) e f = cc
-standing-apart ks s i Nothing (Refused m q) e f = cc
-standing-apart ks s i Nothing (Name m w d) e f = cc
-standing-apart ks s i Nothing Nothing e f = refl
+pub standing-apart : (m : Manner) (ks : List Kind) (s : List ℕ) (i : ℕ) (x y : Stands) → Standing m ks s i x → Standing m ks s i y → x ≡ y
+standing-apart m ks s i (Item a p k c) (Item b q l d) e f = let h : c .at ≡ d .at = cc in let z : _≡_ {A = Placed × Kind} ((a, p), k) ((b, q), l) = cc in rw (ap (λ (x : Placed × Kind). x .0 .0) z, ap (λ (x : Placed × Kind). x .0 .1) z, ap (λ (x : Placed × Kind). x .1) z, h)
+standing-apart m ks s i (Item a p k c) (Refused n r) e f = cc
+standing-apart m ks s i (Item a p k c) (Name n v d) e f = cc
+standing-apart m ks s i (Item a p k c) Nothing e f = cc
+standing-apart m ks s i (Refused n p) (Item b q l d) e f = cc
+standing-apart m ks s i (Refused n p) (Refused o q) e f = cc
+standing-apart m ks s i (Refused n p) (Name o v d) e f = cc
+standing-apart m ks s i (Refused n p) Nothing e f = cc
+standing-apart m ks s i (Name n v c) (Item b q l d) e f = cc
+standing-apart m ks s i (Name n v c) (Refused o q) e f = cc
+standing-apart m ks s i (Name n v c) (Name o w d) e f = let h : c .at ≡ d .at = cc in let z : _≡_ {A = ℕ × ℕ} (n, v) (o, w) = cc in rw (ap (λ (x : ℕ × ℕ). x .0) z, ap (λ (x : ℕ × ℕ). x .1) z, h)
+standing-apart m ks s i (Name n v c) Nothing e f = cc
+standing-apart m ks s i Nothing (Item b q l d) e f = cc
+standing-apart m ks s i Nothing (Refused o q) e f = cc
+standing-apart m ks s i Nothing (Name o w d) e f = cc
+standing-apart m ks s i Nothing Nothing e f = refl

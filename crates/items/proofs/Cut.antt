@@ -15,6 +15,7 @@ use Rattle.times.proofs.Cut.{timeItem-alike}
 use Rattle.days.proofs.Cut.{weekdayItem-alike, holidayItem-alike}
 use Rattle.dates.proofs.Cut.{yearItem-alike, weekItem-alike, monthDayItem-alike}
 use Rattle.items.specs.Musts.{missingAt, missing, must}
+use Rattle.names.specs.declared.Manner.{Manner}
 use Rattle.items.specs.Kinds.{apart, Placed, at, weeks, itemOf, itemIn}
 use Rattle.items.specs.declared.Kind.{Kind}
 use Rattle.items.proofs.Quotes.{missing-alike, missing-number}
@@ -53,21 +54,21 @@ module _ {u : List ℕ} where
   unfolding weeks
   weeks-local = then-local (name-local names.week) (λ _. must-local (free (apart-local (at-local weekItem-alike))))
 
-  pub itemOf-local : (k : Kind) → Local Stop placedMoves u false false 1 (itemOf k) (itemOf k)
+  pub itemOf-local : (m : Manner) (k : Kind) → Local Stop placedMoves u false false 1 (itemOf m k) (itemOf m k)
   unfolding itemOf
-  itemOf-local Years = loose (at-local yearItem-alike) (omega arith)
-  itemOf-local MonthDays = at-local monthDayItem-alike
-  itemOf-local Weeks = weeks-local
-  itemOf-local WeekNumbers = at-local weekItem-alike
-  itemOf-local Weekdays = at-local weekdayItem-alike
-  itemOf-local LastWeekdays = at-local weekdayItem-alike
-  itemOf-local Holidays = at-local holidayItem-alike
-  itemOf-local LastHolidays = at-local holidayItem-alike
-  itemOf-local Times = at-local timeItem-alike
+  itemOf-local m Years = loose (at-local yearItem-alike) (omega arith)
+  itemOf-local m MonthDays = at-local monthDayItem-alike
+  itemOf-local m Weeks = weeks-local
+  itemOf-local m WeekNumbers = at-local weekItem-alike
+  itemOf-local m Weekdays = at-local (weekdayItem-alike m)
+  itemOf-local m LastWeekdays = at-local (weekdayItem-alike m)
+  itemOf-local m Holidays = at-local holidayItem-alike
+  itemOf-local m LastHolidays = at-local holidayItem-alike
+  itemOf-local m Times = at-local (timeItem-alike m)
 
-  pub itemIn-local : (ks : List Kind) → Local Stop (step-moves placedMoves) u false false 1 (itemIn ks) (itemIn ks)
+  pub itemIn-local : (m : Manner) (ks : List Kind) → Local Stop (step-moves placedMoves) u false false 1 (itemIn m ks) (itemIn m ks)
   unfolding itemIn
-  itemIn-local [] = nothing-local
-  itemIn-local (k ∷ ks) =
+  itemIn-local m [] = nothing-local
+  itemIn-local m (k ∷ ks) =
       let f : Placed → Reader (Placed × Kind) = λ a. pure (a, k) in
-      loose (branch-moved {l = 0} f f (itemOf-local k) (λ a. pure-local (a, k)) (loose (itemIn-local ks) (omega arith))) (omega arith)
+      loose (branch-moved {l = 0} f f (itemOf-local m k) (λ a. pure-local (a, k)) (loose (itemIn-local m ks) (omega arith))) (omega arith)

@@ -13,6 +13,7 @@ use Rattle.records.specs.declared.Item.{Item}
 use Rattle.records.specs.declared.ItemRead.{ItemRead}
 use Rattle.records.specs.declared.ItemRead.the-variants as item
 use Rattle.records.proofs.ItemRead as item-read
+use Rattle.names.specs.declared.Manner.{Manner}
 use Rattle.items.specs.Kinds.{Placed, itemOf, itemIn}
 use Rattle.items.specs.Sets.{hasKind, picked, yearly, numbered, kindsOf}
 use Rattle.items.specs.Seen.{Standing, withKind, Finds}
@@ -49,39 +50,39 @@ finds-first m (stands.Refused l p) o e s i n = rw e
 finds-first m (stands.Name l v c) o e s i n = e
 finds-first m stands.Nothing o e s i n = absurd (miss some 3 tt o)
 
-module _ (s : List ℕ) (i : ℕ) (set : ℕ) (k : Kind) where
+module _ (m : Manner) (s : List ℕ) (i : ℕ) (set : ℕ) (k : Kind) where
   -- a kind alone
-  pub finds-one : (r : Stands) {x : Read Placed} → hasKind set k ≡ true → itemOf k s i ≡ x → Finds (withKind k x) r → Finds (itemIn (picked set (k ∷ [])) s i) r
+  pub finds-one : (r : Stands) {x : Read Placed} → hasKind set k ≡ true → itemOf m k s i ≡ x → Finds (withKind k x) r → Finds (itemIn m (picked set (k ∷ [])) s i) r
   unfolding picked itemIn
-  finds-one r e f h = finds r (pick-yes s i set k [] e ∙ or-none s i (withKind k (itemOf k s i)) (itemIn (picked set [])) refl ∙ ap (withKind k) f) h
+  finds-one r e f h = finds r (pick-yes m s i set k [] e ∙ or-none s i (withKind k (itemOf m k s i)) (itemIn m (picked set [])) refl ∙ ap (withKind k) f) h
 
-  pub pick-not : hasKind set k ≡ false → itemIn (picked set (k ∷ [])) s i ≡ none
+  pub pick-not : hasKind set k ≡ false → itemIn m (picked set (k ∷ [])) s i ≡ none
   unfolding picked itemIn
-  pick-not e = pick-no s i set k [] e
+  pick-not e = pick-no m s i set k [] e
 
   -- that kind, and then others
-  module _ (ks : List Kind) (r : Stands) (h : Finds (itemIn (picked set (k ∷ [])) s i) r) where
-    pub finds-before : OneOf some (tagOf stands-read.the-type r) → Finds (itemIn (picked set (k ∷ ks)) s i) r
-    finds-before o = finds r (pick-then s i set (k ∷ []) ks) (finds-first (itemIn (picked set (k ∷ [])) s i) r o h s i (itemIn (picked set ks)))
+  module _ (ks : List Kind) (r : Stands) (h : Finds (itemIn m (picked set (k ∷ [])) s i) r) where
+    pub finds-before : OneOf some (tagOf stands-read.the-type r) → Finds (itemIn m (picked set (k ∷ ks)) s i) r
+    finds-before o = finds r (pick-then m s i set (k ∷ []) ks) (finds-first (itemIn m (picked set (k ∷ [])) s i) r o h s i (itemIn m (picked set ks)))
 
-    pub pick-after : r ≡ stands.Nothing → itemIn (picked set (k ∷ ks)) s i ≡ itemIn (picked set ks) s i
-    pick-after e = pick-then s i set (k ∷ []) ks ∙ rw (finds-none (itemIn (picked set (k ∷ [])) s i) h e)
+    pub pick-after : r ≡ stands.Nothing → itemIn m (picked set (k ∷ ks)) s i ≡ itemIn m (picked set ks) s i
+    pick-after e = pick-then m s i set (k ∷ []) ks ∙ rw (finds-none (itemIn m (picked set (k ∷ [])) s i) h e)
 
-module _ (s : List ℕ) (i set : ℕ) (w : word s i ≡ none) where
+module _ (m : Manner) (s : List ℕ) (i set : ℕ) (w : word s i ≡ none) where
   -- what was found, where no name stands, is what stands there
-  finds-standing : (r : Stands) → Finds (itemIn (kindsOf set) s i) r → Standing (kindsOf set) s i r
+  finds-standing : (r : Stands) → Finds (itemIn m (kindsOf set) s i) r → Standing m (kindsOf set) s i r
   finds-standing (stands.Item a p k c) e = e
   finds-standing (stands.Refused n p) e = e
   finds-standing (stands.Name n v c) e = absurd e
   finds-standing stands.Nothing e = (e, w)
 
-  module _ (r : Stands) (h : Finds (itemIn (picked set yearly) s i) r) where
+  module _ (r : Stands) (h : Finds (itemIn m (picked set yearly) s i) r) where
     -- an item that begins with a year
-    pub yearly-stands : OneOf some (tagOf stands-read.the-type r) → Standing (kindsOf set) s i r
-    yearly-stands o = finds-standing r (finds r (item-unnamed s i w set) (finds-first (itemIn (picked set yearly) s i) r o h s i (itemIn (picked set numbered))))
+    pub yearly-stands : OneOf some (tagOf stands-read.the-type r) → Standing m (kindsOf set) s i r
+    yearly-stands o = finds-standing r (finds r (item-unnamed m s i w set) (finds-first (itemIn m (picked set yearly) s i) r o h s i (itemIn m (picked set numbered))))
 
     -- or with another number
-    pub numbered-stands : r ≡ stands.Nothing → (q : Stands) → Finds (itemIn (picked set numbered) s i) q → Standing (kindsOf set) s i q
+    pub numbered-stands : r ≡ stands.Nothing → (q : Stands) → Finds (itemIn m (picked set numbered) s i) q → Standing m (kindsOf set) s i q
     numbered-stands e q f =
-        let others : itemIn (kindsOf set) s i ≡ itemIn (picked set numbered) s i = item-unnamed s i w set ∙ rw (finds-none (itemIn (picked set yearly) s i) h e) in
+        let others : itemIn m (kindsOf set) s i ≡ itemIn m (picked set numbered) s i = item-unnamed m s i w set ∙ rw (finds-none (itemIn m (picked set yearly) s i) h e) in
         finds-standing q (finds q others f)

@@ -16,6 +16,7 @@ use Rattle.days.proofs.Cut.{weekdayItem-alike, holidayItem-alike}
 use Rattle.dates.specs.Weeks.{weekItem}
 use Rattle.dates.proofs.Cut.{yearItem-alike, weekItem-alike, monthDayItem-alike}
 use Rattle.items.specs.Musts.{missing, must}
+use Rattle.names.specs.declared.Manner.{Manner}
 use Rattle.items.specs.Kinds.{apart, Placed, at, weeks, itemOf, itemIn}
 use Rattle.items.specs.declared.Kind.{Kind}
 use Rattle.items.specs.declared.Kind.the-variants.{Years, MonthDays, Weeks, WeekNumbers, Weekdays, LastWeekdays, Holidays, LastHolidays, Times}
@@ -48,25 +49,25 @@ module _ (s : List ℕ) where
       upto-then (Inside i) s i (λ _. must (apart (at weekItem))) (name week s i) (λ _ j e. must-upto (Inside i) j (apart (at weekItem))
       (apart-upto (Inside i) j (at weekItem) (λ k h. upto-less (Inside k) (Inside i) (λ a l. inside-from a l (omega (arith, past-one (name-local week) e .0))) (at weekItem s k) (at-inside weekItem-alike k))))
 
-  itemOf-inside : (k : Kind) (i : ℕ) → Upto (Inside i) (itemOf k s i)
+  itemOf-inside : (m : Manner) (k : Kind) (i : ℕ) → Upto (Inside i) (itemOf m k s i)
   unfolding itemOf
-  itemOf-inside Years i = at-inside yearItem-alike i
-  itemOf-inside MonthDays i = at-inside monthDayItem-alike i
-  itemOf-inside Weeks i = weeks-inside i
-  itemOf-inside WeekNumbers i = at-inside weekItem-alike i
-  itemOf-inside Weekdays i = at-inside weekdayItem-alike i
-  itemOf-inside LastWeekdays i = at-inside weekdayItem-alike i
-  itemOf-inside Holidays i = at-inside holidayItem-alike i
-  itemOf-inside LastHolidays i = at-inside holidayItem-alike i
-  itemOf-inside Times i = at-inside timeItem-alike i
+  itemOf-inside m Years i = at-inside yearItem-alike i
+  itemOf-inside m MonthDays i = at-inside monthDayItem-alike i
+  itemOf-inside m Weeks i = weeks-inside i
+  itemOf-inside m WeekNumbers i = at-inside weekItem-alike i
+  itemOf-inside m Weekdays i = at-inside (weekdayItem-alike m) i
+  itemOf-inside m LastWeekdays i = at-inside (weekdayItem-alike m) i
+  itemOf-inside m Holidays i = at-inside holidayItem-alike i
+  itemOf-inside m LastHolidays i = at-inside holidayItem-alike i
+  itemOf-inside m Times i = at-inside (timeItem-alike m) i
 
   -- an item of one of several kinds
-  pub itemIn-inside : (ks : List Kind) (i : ℕ) → Upto (λ x j. Inside i (x .0) j) (itemIn ks s i)
+  pub itemIn-inside : (m : Manner) (ks : List Kind) (i : ℕ) → Upto (λ x j. Inside i (x .0) j) (itemIn m ks s i)
   unfolding itemIn
-  itemIn-inside [] i = tt
-  itemIn-inside (k ∷ ks) i = go (itemOf k s i) (itemOf-inside k i) (itemIn-inside ks i)
+  itemIn-inside m [] i = tt
+  itemIn-inside m (k ∷ ks) i = go (itemOf m k s i) (itemOf-inside m k i) (itemIn-inside m ks i)
     where
-      go : (r : Read Placed) → Upto (Inside i) r → Upto (λ x j. Inside i (x .0) j) (itemIn ks s i) → Upto (λ x j. Inside i (x .0) j) (follow s i r (λ a. pure (a, k)) (itemIn ks))
+      go : (r : Read Placed) → Upto (Inside i) r → Upto (λ x j. Inside i (x .0) j) (itemIn m ks s i) → Upto (λ x j. Inside i (x .0) j) (follow s i r (λ a. pure (a, k)) (itemIn m ks))
       go (got a j) h others = h
       go none h others = others
       go (refused n p) h others = tt

@@ -11,6 +11,7 @@ use Rattle.names.specs.Tests.{if_then_else_, within}
 use Rattle.names.specs.Read.{Read, got, none, refused, Reader, follow, nothing, pure, unless, when, one, _>>_}
 use Rattle.names.specs.Texts.{byte, blank, blanks}
 use Rattle.names.specs.Numbers.{isDigit, digit, enough, upTo, digits, clockBehind, number, year, hour}
+use Rattle.names.specs.declared.Manner.{Manner}
 use Rattle.names.specs.Names.{word, name, weekday, month, event, easter, holiday, week}
 use Rattle.names.proofs.Laws.{one-is, within-above, within-range, or-none}
 use Rattle.names.proofs.Search.{no-word, word-letter}
@@ -82,7 +83,7 @@ module _ (s : List ℕ) (i : ℕ) where
 
   -- ---- where a name stands
 
-  module _ {k v j : ℕ} (w : word s i ≡ got (k, v) j) where
+  module _ (m : Manner) {k v j : ℕ} (w : word s i ≡ got (k, v) j) where
     -- a byte from 65 on, and so no sign below
     not-below : (p : ℕ → Bool) → p 0 ≡ false → ((b : ℕ) → 65 ≤ b → p b ≡ false) → one p s i ≡ none
     not-below p z h = one-is p z s i refl (h (getD s i 0) (word-letter s i w))
@@ -100,20 +101,20 @@ module _ (s : List ℕ) (i : ℕ) where
     unfolding rawTime
     timed e = rw (clock-none no-digit, name-is event w e)
 
-    pub event-time : k ≡ event → timeItem s i ≡ eventItemBehind i v s j
+    pub event-time : k ≡ event → timeItem m s i ≡ eventItemBehind m i v s j
     unfolding timeItem spanShape eventItemBehind
-    event-time e = item-behind rawTime spanBehind spanMeaning (timed e)
+    event-time e = item-behind rawTime spanBehind (spanMeaning m) (timed e)
 
-    pub other-time : (k ≡ event → ⊥) → timeItem s i ≡ none
+    pub other-time : (k ≡ event → ⊥) → timeItem m s i ≡ none
     unfolding timeItem spanShape rawTime
     other-time e = rw (clock-none no-digit, name-other event w e, no-bracket)
 
     -- a weekday, a holiday
-    pub is-weekday : k ≡ weekday → weekdayItem s i ≡ weekdayItemBehind i v s j
+    pub is-weekday : k ≡ weekday → weekdayItem m s i ≡ weekdayItemBehind m i v s j
     unfolding weekdayItem weekdayShape weekdayItemBehind
-    is-weekday e = item-behind (name weekday) weekdayBehind weekdayMeaning (name-is weekday w e)
+    is-weekday e = item-behind (name weekday) (weekdayBehind m) weekdayMeaning (name-is weekday w e)
 
-    pub no-weekday : (k ≡ weekday → ⊥) → weekdayItem s i ≡ none
+    pub no-weekday : (k ≡ weekday → ⊥) → weekdayItem m s i ≡ none
     unfolding weekdayItem weekdayShape
     no-weekday e = rw (name-other weekday w e)
 
@@ -153,7 +154,7 @@ module _ (s : List ℕ) (i : ℕ) where
     neither false b e = (refl, e)
 
     -- an item of a kind that begins with no such name
-    pub begun-none : (x : Kind) → beginsWith k x ≡ false → itemOf x s i ≡ none
+    pub begun-none : (x : Kind) → beginsWith k x ≡ false → itemOf m x s i ≡ none
     unfolding itemOf beginsWith
     begun-none Years e = none-at no-year
     begun-none MonthDays e = let n = neither (eqb k month) (eqb k easter) e in none-at (no-date (eqb-false k month (n .0)) (eqb-false k easter (n .1)))
@@ -166,25 +167,25 @@ module _ (s : List ℕ) (i : ℕ) where
     begun-none Times e = none-at (other-time (eqb-false k event e))
 
     -- after the name, by its kind
-    after-weekday : k ≡ weekday → afterName i k v ≡ weekdayItemBehind i v
+    after-weekday : k ≡ weekday → afterName m i k v ≡ weekdayItemBehind m i v
     unfolding afterName
     after-weekday e = rw (eq-eqb k weekday e)
 
-    after-date : (t u : Bool) → eqb k month ≡ t → eqb k easter ≡ u → (t || u) ≡ true → afterName i k v ≡ monthDayBehind i Absent (k, v)
+    after-date : (t u : Bool) → eqb k month ≡ t → eqb k easter ≡ u → (t || u) ≡ true → afterName m i k v ≡ monthDayBehind i Absent (k, v)
     unfolding afterName
     after-date true u e f h = let d = eqb-true k month e in rw (ne-eqb k weekday (λ q. omega arith), e)
     after-date false true e f h = let d = eqb-true k easter f in rw (ne-eqb k weekday (λ q. omega arith), e, f)
     after-date false false e f h = absurd (true≢false (sym h))
 
-    after-event : k ≡ event → afterName i k v ≡ eventItemBehind i v
+    after-event : k ≡ event → afterName m i k v ≡ eventItemBehind m i v
     unfolding afterName
     after-event e = rw (ne-eqb k weekday (λ q. omega arith), ne-eqb k month (λ q. omega arith), ne-eqb k easter (λ q. omega arith), eq-eqb k event e)
 
-    after-holiday : k ≡ holiday → afterName i k v ≡ holidayItemBehind i v
+    after-holiday : k ≡ holiday → afterName m i k v ≡ holidayItemBehind i v
     unfolding afterName
     after-holiday e = rw (ne-eqb k weekday (λ q. omega arith), ne-eqb k month (λ q. omega arith), ne-eqb k easter (λ q. omega arith), ne-eqb k event (λ q. omega arith), eq-eqb k holiday e)
 
-    after-week : k ≡ week → afterName i k v ≡ must (apart weekItem)
+    after-week : k ≡ week → afterName m i k v ≡ must (apart weekItem)
     unfolding afterName
     after-week e = rw (ne-eqb k weekday (λ q. omega arith), ne-eqb k month (λ q. omega arith), ne-eqb k easter (λ q. omega arith), ne-eqb k event (λ q. omega arith), ne-eqb k holiday (λ q. omega arith), eq-eqb k week e)
 
@@ -205,12 +206,12 @@ module _ (s : List ℕ) (i : ℕ) where
     date-week false false e f h q = true≢false (sym h)
 
     -- at the place of an item that begins with its name
-    placed : {r : Read Item} {n : Reader Item} → (k ≡ week → ⊥) → r ≡ n s j → afterName i k v ≡ n → atPlace s i i r ≡ atPlace s i (placeOf k i s j) (afterName i k v s j)
+    placed : {r : Read Item} {n : Reader Item} → (k ≡ week → ⊥) → r ≡ n s j → afterName m i k v ≡ n → atPlace s i i r ≡ atPlace s i (placeOf k i s j) (afterName m i k v s j)
     unfolding placeOf
     placed h e f = item-at e ∙ rw (ne-eqb k week h, f)
 
     -- a week at its number
-    placed-week : k ≡ week → weeks s i ≡ atPlace s i (placeOf k i s j) (afterName i k v s j)
+    placed-week : k ≡ week → weeks s i ≡ atPlace s i (placeOf k i s j) (afterName m i k v s j)
     unfolding placeOf
     placed-week e = is-weeks e ∙ rw (eq-eqb k week e, after-week e) (go (blank s j) refl)
       where
@@ -218,14 +219,14 @@ module _ (s : List ℕ) (i : ℕ) where
         go (got tt l) e = rw (blanks-again s j e .0) (number l (weekItem s l))
           where
             number : (l : ℕ) (r : Read Item) → follow s j (follow s l r (λ a. pure (a, l)) nothing) pure missing ≡ atPlace s i l (follow s j r pure missing)
-            number l (got a m) = refl
+            number l (got a q) = refl
             number l none = lacks l
             number l (refused n p) = refl
         go none e = lacks (placeAfter (blanks s j))
         go (refused n p) e = refl
 
     -- an item of a kind that begins with such a name is what stands after the name
-    pub begun-is : (x : Kind) → beginsWith k x ≡ true → itemOf x s i ≡ atPlace s i (placeOf k i s j) (afterName i k v s j)
+    pub begun-is : (x : Kind) → beginsWith k x ≡ true → itemOf m x s i ≡ atPlace s i (placeOf k i s j) (afterName m i k v s j)
     unfolding itemOf beginsWith
     begun-is Years e = absurd (true≢false (sym e))
     begun-is MonthDays e = placed (date-week (eqb k month) (eqb k easter) refl refl e) month-day (after-date (eqb k month) (eqb k easter) refl refl e)
@@ -241,9 +242,9 @@ module _ (s : List ℕ) (i : ℕ) where
 
   module _ (w : word s i ≡ none) where
     -- none of the kinds that begin with a name
-    pub weekday-none : at weekdayItem s i ≡ none
+    pub weekday-none : (m : Manner) → at (weekdayItem m) s i ≡ none
     unfolding weekdayItem weekdayShape
-    weekday-none = rw (name-none weekday w)
+    weekday-none m = rw (name-none weekday w)
 
     pub holiday-none : at holidayItem s i ≡ none
     unfolding holidayItem holidayShape

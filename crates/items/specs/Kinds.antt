@@ -4,6 +4,7 @@ use mathlib.Core.List.{List, [], _∷_}
 use Rattle.names.specs.Read.{Reader, branch, nothing, pure, here, _>>=_, _>>_}
 use Rattle.names.specs.Texts.{blank}
 use Rattle.names.specs.Names.{name, week}
+use Rattle.names.specs.declared.Manner.{Manner}
 use Rattle.records.specs.declared.Item.{Item}
 use Rattle.times.specs.Spans.{timeItem}
 use Rattle.days.specs.Weekdays.{weekdayItem}
@@ -39,18 +40,18 @@ weeks = do
   must (apart (at weekItem))
 
 -- an item of a kind. Weekdays after holidays and holidays after weekdays are kinds of their own, since the list does not go back
-unfoldable pub itemOf : Kind → Reader Placed
-itemOf Years = at yearItem
-itemOf MonthDays = at monthDayItem
-itemOf Weeks = weeks
-itemOf WeekNumbers = at weekItem
-itemOf Weekdays = at weekdayItem
-itemOf LastWeekdays = at weekdayItem
-itemOf Holidays = at holidayItem
-itemOf LastHolidays = at holidayItem
-itemOf Times = at timeItem
+unfoldable pub itemOf : Manner → Kind → Reader Placed
+itemOf m Years = at yearItem
+itemOf m MonthDays = at monthDayItem
+itemOf m Weeks = weeks
+itemOf m WeekNumbers = at weekItem
+itemOf m Weekdays = at (weekdayItem m)
+itemOf m LastWeekdays = at (weekdayItem m)
+itemOf m Holidays = at holidayItem
+itemOf m LastHolidays = at holidayItem
+itemOf m Times = at (timeItem m)
 
 -- an item, and its kind: of these kinds, the first of which an item stands here
-unfoldable pub itemIn : List Kind → Reader (Placed × Kind)
-itemIn [] = nothing
-itemIn (k ∷ ks) = branch (itemOf k) (λ a. pure (a, k)) (itemIn ks)
+unfoldable pub itemIn : Manner → List Kind → Reader (Placed × Kind)
+itemIn m [] = nothing
+itemIn m (k ∷ ks) = branch (itemOf m k) (λ a. pure (a, k)) (itemIn m ks)

@@ -7,6 +7,7 @@ use lib.Dec.{eqb}
 use Rattle.names.specs.Tests.{if_then_else_}
 use Rattle.names.specs.Read.{Read, got, none, refused, Reader, follow, nothing, pure}
 use Rattle.names.specs.Texts.{blanks}
+use Rattle.names.specs.declared.Manner.{Manner}
 use Rattle.names.specs.Names.{word, weekday, month, event, easter, holiday, week}
 use Rattle.records.specs.declared.Item.{Item}
 use Rattle.times.specs.Spans.{eventItemBehind}
@@ -26,11 +27,11 @@ use Rattle.items.specs.declared.Stands.{Stands}
 use Rattle.items.specs.declared.Stands.the-variants as stands
 
 -- what stands at the place i, where items of these kinds are wanted: such an item or its refusal, or else a name, or neither
-abbrev pub Standing : List Kind → List ℕ → ℕ → Stands → Type 0
-Standing ks s i (stands.Item a p k c) = itemIn ks s i ≡ got ((a, p), k) (c .at)
-Standing ks s i (stands.Refused n p) = itemIn ks s i ≡ refused n p
-Standing ks s i (stands.Name n v c) = (itemIn ks s i ≡ none) × (word s i ≡ got (n, v) (c .at))
-Standing ks s i stands.Nothing = (itemIn ks s i ≡ none) × (word s i ≡ none)
+abbrev pub Standing : Manner → List Kind → List ℕ → ℕ → Stands → Type 0
+Standing m ks s i (stands.Item a p k c) = itemIn m ks s i ≡ got ((a, p), k) (c .at)
+Standing m ks s i (stands.Refused n p) = itemIn m ks s i ≡ refused n p
+Standing m ks s i (stands.Name n v c) = (itemIn m ks s i ≡ none) × (word s i ≡ got (n, v) (c .at))
+Standing m ks s i stands.Nothing = (itemIn m ks s i ≡ none) × (word s i ≡ none)
 
 -- what is missing at a place: after the blanks, by its number
 abbrev pub Lacking : List ℕ → ℕ → Lack → Type 0
@@ -73,12 +74,12 @@ wished n [] = Not
 wished n (k ∷ ks) = if beginsWith n k then As k else wished n ks
 
 -- the item that begins at p with a name of kind n, which is v of its kind, after that name
-unfoldable pub afterName : ℕ → ℕ → ℕ → Reader Item
-afterName p n v =
-    if eqb n weekday then weekdayItemBehind p v
+unfoldable pub afterName : Manner → ℕ → ℕ → ℕ → Reader Item
+afterName m p n v =
+    if eqb n weekday then weekdayItemBehind m p v
     else if eqb n month then monthDayBehind p Absent (n, v)
     else if eqb n easter then monthDayBehind p Absent (n, v)
-    else if eqb n event then eventItemBehind p v
+    else if eqb n event then eventItemBehind m p v
     else if eqb n holiday then holidayItemBehind p v
     else if eqb n week then must (apart weekItem)
     else nothing

@@ -4,6 +4,7 @@ ghost use mathlib.Core.List.{[], _∷_};
 ghost use mathlib.Core.Path.{_≡_};
 ghost use Rattle.names.specs.Read.{got, none};
 ghost use Rattle.names.specs.Names.{word};
+ghost use Rattle.names.specs.declared.Manner.{Manner};
 ghost use Rattle.names.specs.Numbers.{year as yearNumber};
 ghost use Rattle.records.specs.Seen.{seenItem};
 ghost use Rattle.dates.specs.Weeks.{weekItem};
@@ -33,6 +34,7 @@ use names::EASTER;
 use names::EVENT;
 use names::HOLIDAY;
 use names::MONTH;
+use names::Manner;
 use names::Num;
 use names::Step;
 use names::WEEK;
@@ -65,13 +67,13 @@ fn found(s: &[u8], c: Cursor, m: ItemRead, kind: Kind) -> Stands
 }
 
 // The item at c that begins with a name of this kind and value, up to d.
-fn begun(s: &[u8], c: Cursor, name: u8, value: u8, d: Cursor) -> ItemRead
-    ensures { λ r. ⌜ afterName (c .at) name value (now (s .entry)) (d .at) ≡ seenItem r ⌝ }
+fn begun(s: &[u8], m: Manner, c: Cursor, name: u8, value: u8, d: Cursor) -> ItemRead
+    ensures { λ r. ⌜ afterName m (c .at) name value (now (s .entry)) (d .at) ≡ seenItem r ⌝ }
 {
     match name {
-        WEEKDAY => weekday_item_behind(s, c.at, d, value),
+        WEEKDAY => weekday_item_behind(s, m, c.at, d, value),
         MONTH | EASTER => month_day_item_behind(s, c.at, d, Year::Absent, name, value),
-        EVENT => event_item_behind(s, c.at, d, value),
+        EVENT => event_item_behind(s, m, c.at, d, value),
         HOLIDAY => holiday_item_behind(s, c.at, d, value),
         WEEK => must(s, d, week_apart(s, d)),
         _ => ItemRead::Missing,
@@ -86,15 +88,15 @@ fn place_of(s: &[u8], c: Cursor, name: u8, d: Cursor) -> usize
 }
 
 // What stands at c, where a name of this kind and value stands, up to d.
-fn named(s: &[u8], c: Cursor, set: u16, name: u8, value: u8, d: Cursor) -> Stands
+fn named(s: &[u8], m: Manner, c: Cursor, set: u16, name: u8, value: u8, d: Cursor) -> Stands
     requires { ⌜ word (now s) (c .at) ≡ got (name, value) (d .at) ⌝ }
-    ensures { λ r. ⌜ Standing (kindsOf set) (now (s .entry)) (c .at) r ⌝ }
+    ensures { λ r. ⌜ Standing m (kindsOf set) (now (s .entry)) (c .at) r ⌝ }
 {
     let wish = wanted_as(set, name);
     let Wish::As(kind) = wish else {
         return Stands::Name(name, value, d);
     };
-    let item = begun(s, c, name, value, d);
+    let item = begun(s, m, c, name, value, d);
     match item {
         ItemRead::Got(a, e) => Stands::Item(a, place_of(s, c, name, d), kind, e),
         ItemRead::Missing => Stands::Name(name, value, d),
@@ -121,7 +123,7 @@ fn dated(s: &[u8], c: Cursor, y: u16, d: Cursor) -> ItemRead
 // A month day at c, where one is wanted and a year stands, up to d.
 fn month_day(s: &[u8], c: Cursor, set: u16, y: u16, d: Cursor) -> Stands
     requires { ⌜ yearNumber (now s) (c .at) ≡ got y (d .at) ⌝ }
-    ensures { λ r. ⌜ Finds (itemIn (picked set (MonthDays ∷ [])) (now (s .entry)) (c .at)) r ⌝ }
+    ensures { λ r. ⌜ ((m : Manner) → Finds (itemIn m (picked set (MonthDays ∷ [])) (now (s .entry)) (c .at)) r) ⌝ }
 {
     if has(set, MONTH_DAYS) {
         found(s, c, dated(s, c, y, d), Kind::MonthDays)
@@ -133,7 +135,7 @@ fn month_day(s: &[u8], c: Cursor, set: u16, y: u16, d: Cursor) -> Stands
 // An item at c that begins with a year, up to d. A year before a blank and a month or `easter` belongs to the date.
 fn with_year(s: &[u8], c: Cursor, set: u16, y: u16, d: Cursor) -> Stands
     requires { ⌜ yearNumber (now s) (c .at) ≡ got y (d .at) ⌝ }
-    ensures { λ r. ⌜ Finds (itemIn (picked set yearly) (now (s .entry)) (c .at)) r ⌝ }
+    ensures { λ r. ⌜ ((m : Manner) → Finds (itemIn m (picked set yearly) (now (s .entry)) (c .at)) r) ⌝ }
 {
     let date = month_day(s, c, set, y, d);
     let Stands::Nothing = date else {
@@ -160,7 +162,7 @@ fn wants_years(set: u16) -> bool
 // An item at c that begins with a year, where one is wanted.
 fn year_first(s: &[u8], c: Cursor, set: u16) -> Stands
     requires { ⌜ word (now s) (c .at) ≡ none ⌝ }
-    ensures { λ r. ⌜ Finds (itemIn (picked set yearly) (now (s .entry)) (c .at)) r ⌝ }
+    ensures { λ r. ⌜ ((m : Manner) → Finds (itemIn m (picked set yearly) (now (s .entry)) (c .at)) r) ⌝ }
 {
     if wants_years(set) {
         let number = c.year(s);
@@ -174,21 +176,21 @@ fn year_first(s: &[u8], c: Cursor, set: u16) -> Stands
 }
 
 // A time at c, where one is wanted.
-fn time(s: &[u8], c: Cursor, set: u16) -> Stands
-    ensures { λ r. ⌜ Finds (itemIn (picked set (Times ∷ [])) (now (s .entry)) (c .at)) r ⌝ }
+fn time(s: &[u8], m: Manner, c: Cursor, set: u16) -> Stands
+    ensures { λ r. ⌜ Finds (itemIn m (picked set (Times ∷ [])) (now (s .entry)) (c .at)) r ⌝ }
 {
     if has(set, TIMES) {
-        found(s, c, time_item(s, c), Kind::Times)
+        found(s, c, time_item(s, m, c), Kind::Times)
     } else {
         Stands::Nothing
     }
 }
 
 // A time or a week's number at c.
-fn with_number(s: &[u8], c: Cursor, set: u16) -> Stands
-    ensures { λ r. ⌜ Finds (itemIn (picked set numbered) (now (s .entry)) (c .at)) r ⌝ }
+fn with_number(s: &[u8], m: Manner, c: Cursor, set: u16) -> Stands
+    ensures { λ r. ⌜ Finds (itemIn m (picked set numbered) (now (s .entry)) (c .at)) r ⌝ }
 {
-    let span = time(s, c, set);
+    let span = time(s, m, c, set);
     let Stands::Nothing = span else {
         return span;
     };
@@ -200,24 +202,24 @@ fn with_number(s: &[u8], c: Cursor, set: u16) -> Stands
 }
 
 // What stands at c, where no name does.
-fn unnamed(s: &[u8], c: Cursor, set: u16) -> Stands
+fn unnamed(s: &[u8], m: Manner, c: Cursor, set: u16) -> Stands
     requires { ⌜ word (now s) (c .at) ≡ none ⌝ }
-    ensures { λ r. ⌜ Standing (kindsOf set) (now (s .entry)) (c .at) r ⌝ }
+    ensures { λ r. ⌜ Standing m (kindsOf set) (now (s .entry)) (c .at) r ⌝ }
 {
     let some = year_first(s, c, set);
     let Stands::Nothing = some else {
         return some;
     };
-    with_number(s, c, set)
+    with_number(s, m, c, set)
 }
 
 // What stands at c, where items of these kinds are wanted.
-pub fn look_at(s: &[u8], c: Cursor, set: u16) -> Stands
-    ensures { λ r. ⌜ Standing (kindsOf set) (now (s .entry)) (c .at) r ⌝ }
+pub fn look_at(s: &[u8], m: Manner, c: Cursor, set: u16) -> Stands
+    ensures { λ r. ⌜ Standing m (kindsOf set) (now (s .entry)) (c .at) r ⌝ }
 {
     let name = c.word(s);
     match name {
-        Word::Got(kind, value, d) => named(s, c, set, kind, value, d),
-        Word::Missing => unnamed(s, c, set),
+        Word::Got(kind, value, d) => named(s, m, c, set, kind, value, d),
+        Word::Missing => unnamed(s, m, c, set),
     }
 }

@@ -53,6 +53,10 @@ brokenQuote = 12
 abbrev pub illFormedComment : ℕ
 illFormedComment = 13
 
+-- no edition has the given number
+abbrev pub unknownEdition : ℕ
+unknownEdition = 19
+
 -- the greatest
 abbrev pub greatest : ℕ
-greatest = illFormedComment
+greatest = unknownEdition

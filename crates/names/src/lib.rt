@@ -16,6 +16,7 @@ pub use refusals::NO_SHAPE;
 pub use refusals::POINT_IN_TIME;
 pub use refusals::RANGE;
 pub use refusals::TOO_LONG;
+pub use refusals::UNKNOWN_EDITION;
 pub use refusals::WEEK_STEP;
 pub use refusals::WEEKS_INVERTED;
 pub use refusals::YEARS_INVERTED;
@@ -30,6 +31,12 @@ pub use table::MONTH;
 pub use table::WEEK;
 pub use table::WEEKDAY;
 pub use tests::within;
+
+// How a text is read: by the first edition of the rules, or by the second, which takes more shapes.
+pub enum Manner {
+    First,
+    Second,
+}
 
 // A place in a text. Each step takes it by value and hands it back moved on; past the end nothing stands.
 pub struct Cursor {

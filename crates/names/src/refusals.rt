@@ -37,3 +37,6 @@ pub const BROKEN_QUOTE: u8 = 12;
 
 // a comment that is not well-formed UTF-8
 pub const ILL_FORMED_COMMENT: u8 = 13;
+
+// no edition has the given number
+pub const UNKNOWN_EDITION: u8 = 19;

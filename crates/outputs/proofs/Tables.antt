@@ -7,7 +7,8 @@ use lib.IntN.{ℤ}
 use lib.ListN.{length}
 use Rattle.records.specs.Tables.{asWords, laid, recordsIn}
 use Rattle.records.proofs.Cells.{records-back}
-use Rattle.sheet.specs.Sheets.{sheetOf, sheetReading}
+use Rattle.names.specs.declared.Manner.the-variants.{First}
+use Rattle.sheet.specs.Sheets.{sheetOf, sheetReading, sheetReadingBy}
 use Rattle.sheet.specs.declared.Answer.{Answer}
 use Rattle.sheet.proofs.Readings.{sheet-held}
 use Rattle.prints.specs.Lines.{line, lines}
@@ -18,14 +19,14 @@ use Rattle.outputs.specs.Outputs.{numbersOf, outputOf, filled, longest}
 module _ (s : List ℕ) (t : List ℤ) {a : Answer} {u : List ℤ} (long : length t ≡ 8192) (e : (a, u) ≡ sheetReading s t) where
   -- there are 512 records at most
   pub few-records : a .records ≤ 512
-  unfolding sheetReading
-  few-records = let h = sheet-held s (length t) in omega (arith, ap (λ r. r .0 .records) e ∙ h .many, h .room)
+  unfolding sheetReadingBy
+  few-records = let h = sheet-held First s (length t) in omega (arith, ap (λ r. r .0 .records) e ∙ h .many, h .room)
 
   -- the answer's line and those of its records are the output
   pub output-lines : line (numbersOf a) ++ lines (recordsIn (a .records) u) ≡ outputOf s
-  unfolding sheetReading outputOf lines
+  unfolding sheetReadingBy outputOf lines
   output-lines =
-      let h = sheet-held s (length t) in
+      let h = sheet-held First s (length t) in
       let rs = sheetOf s (length t) .1 in
       let answer : a ≡ sheetOf s (length t) .0 = ap (λ r. r .0) e in
       let table : u ≡ laid asWords t 0 rs = ap (λ r. r .1) e in

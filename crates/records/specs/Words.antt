@@ -45,7 +45,7 @@ abbrev pub repeatWord : Repeat → ℤ
 repeatWord Never = negsuc 0
 repeatWord (Every m) = pos m
 
--- open end 0/1
+-- open end 0/1, a time alone 0/1
 abbrev pub bit : Bool → ℤ
 bit false = pos 0
 bit true = pos 1
@@ -58,7 +58,7 @@ itemWords (Dates r) = pos 4 ∷ dateWords r.start r.before ++ dateWords r.end r.
 itemWords (Weeks r) = pos 5 ∷ pos r.first ∷ pos r.last ∷ pos r.step ∷ []
 itemWords (Weekdays r) = pos 6 ∷ pos r.first ∷ pos r.last ∷ wordOf r.days ∷ pos r.starts ∷ pos r.ends ∷ []
 itemWords (Holidays r) = pos 7 ∷ pos r.kind ∷ wordOf r.days ∷ []
-itemWords (Times r) = pos 8 ∷ timeWords r.start ++ timeWords r.end ++ (repeatWord r.repeats ∷ bit r.plus ∷ [])
+itemWords (Times r) = pos 8 ∷ timeWords r.start ++ timeWords r.end ++ (repeatWord r.repeats ∷ bit r.plus ∷ bit r.point ∷ [])
 
 -- the 16 words of an item
 unfoldable pub wordsOf : Item → List ℤ

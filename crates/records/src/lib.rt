@@ -92,12 +92,13 @@ pub enum Repeat {
     Every(u16),
 }
 
-// A span of times, and whether its end is open (a plus).
+// A span of times, whether its end is open (a plus), and whether it is a time alone.
 pub struct Span {
     pub start: Time,
     pub end: Time,
     pub repeats: Repeat,
     pub plus: bool,
+    pub point: bool,
 }
 
 // An item of any kind.

@@ -226,7 +226,7 @@ fn span_words(r: Span) -> [i32; 16]
         b.minutes,
         repeat_word(repeats),
         bit(r.plus),
-        0,
+        bit(r.point),
         0,
         0,
         0,

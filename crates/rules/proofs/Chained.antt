@@ -9,6 +9,7 @@ use Rattle.names.specs.Chain.{before, last, chain}
 use Rattle.names.proofs.Local.{takes}
 use Rattle.names.proofs.Fuel.{chain-is}
 use Rattle.names.proofs.Skips.{map-map}
+use Rattle.names.specs.declared.Manner.{Manner}
 use Rattle.items.specs.Musts.{missing}
 use Rattle.items.specs.Kinds.{apart, Placed}
 use Rattle.items.proofs.Sure.{Sure, sure, then-sure, or-sure, missing-sure, chain-sure}
@@ -25,34 +26,34 @@ use Rattle.rules.proofs.Cut.{more-local}
 -- ---- pieces
 
 -- the pieces of a rule are a piece and those from there, or an end
-pub pieces-are : (x : Stage) (s : List ℕ) (i : ℕ) → chain more end x s i ≡ branch (more x) (λ c. map (before (c .0)) (chain more end (c .1))) (map last (end x)) s i
-pieces-are = chain-is more end (λ x. takes (more-local {u = []} x))
+pub pieces-are : (m : Manner) (x : Stage) (s : List ℕ) (i : ℕ) → chain (more m) end x s i ≡ branch (more m x) (λ c. map (before (c .0)) (chain (more m) end (c .1))) (map last (end x)) s i
+pieces-are m = chain-is (more m) end (λ x. takes (more-local {u = []} m x))
 
 -- what the pieces come to, whatever it is: by a piece more, by a refusal, or by the end
-module _ {A : Type 0} (f : List Placed × Tail → A) (x : Stage) (s : List ℕ) (i : ℕ) where
-  pub piece-more : {a : Placed} {y : Stage} {j : ℕ} → more x s i ≡ got (a, y) j → map f (chain more end x) s i ≡ map (λ r. f (before a r)) (chain more end y) s j
-  piece-more {a} {y} {j} e = rw (pieces-are x s i, e) (map-map (before a) f s i j (chain more end y s j))
+module _ {A : Type 0} (m : Manner) (f : List Placed × Tail → A) (x : Stage) (s : List ℕ) (i : ℕ) where
+  pub piece-more : {a : Placed} {y : Stage} {j : ℕ} → more m x s i ≡ got (a, y) j → map f (chain (more m) end x) s i ≡ map (λ r. f (before a r)) (chain (more m) end y) s j
+  piece-more {a} {y} {j} e = rw (pieces-are m x s i, e) (map-map (before a) f s i j (chain (more m) end y s j))
 
-  pub piece-refused : {k p : ℕ} → more x s i ≡ refused k p → map f (chain more end x) s i ≡ refused k p
-  piece-refused e = rw (pieces-are x s i, e)
+  pub piece-refused : {k p : ℕ} → more m x s i ≡ refused k p → map f (chain (more m) end x) s i ≡ refused k p
+  piece-refused e = rw (pieces-are m x s i, e)
 
-  pub piece-end : more x s i ≡ none → map f (chain more end x) s i ≡ map (λ t. f (last t)) (end x) s i
-  piece-end e = rw (pieces-are x s i, e) (map-map last f s i i (end x s i))
+  pub piece-end : more m x s i ≡ none → map f (chain (more m) end x) s i ≡ map (λ t. f (last t)) (end x) s i
+  piece-end e = rw (pieces-are m x s i, e) (map-map last f s i i (end x s i))
 
 -- ---- what a piece is
 
 abbrev Piece : Type 0
 Piece = (Placed × Stage) ⊎ Tail
 
-module _ (x : Stage) (s : List ℕ) (i : ℕ) where
+module _ (m : Manner) (x : Stage) (s : List ℕ) (i : ℕ) where
   -- what a rule's end comes to
   abbrev ends : Read Tail → Read Piece
   ends t = follow s i t (λ b. pure (inr b)) nothing
 
   -- an item
-  pub piece-item : {a : Placed × Stage} {j : ℕ} → piece x s i ≡ got (inl a) j → more x s i ≡ got a j
+  pub piece-item : {a : Placed × Stage} {j : ℕ} → piece m x s i ≡ got (inl a) j → more m x s i ≡ got a j
   unfolding piece
-  piece-item {a} {j} e = go (more x s i) e
+  piece-item {a} {j} e = go (more m x s i) e
     where
       ended : (t : Read Tail) → ends t ≡ got (inl a) j → none ≡ got a j
       ended (got b k) e = cc
@@ -65,16 +66,16 @@ module _ (x : Stage) (s : List ℕ) (i : ℕ) where
       go (refused k p) e = cc
 
   -- the rule's end: no item
-  pub piece-none : {t : Tail} {j : ℕ} → piece x s i ≡ got (inr t) j → more x s i ≡ none
+  pub piece-none : {t : Tail} {j : ℕ} → piece m x s i ≡ got (inr t) j → more m x s i ≡ none
   unfolding piece
-  piece-none {t} {j} e = go (more x s i) e
+  piece-none {t} {j} e = go (more m x s i) e
     where
       go : (r : Read (Placed × Stage)) → follow s i r (λ b. pure (inl b)) (map inr (end x)) ≡ got (inr t) j → r ≡ none
       go (got b k) e = cc
       go none e = refl
       go (refused k p) e = cc
 
-  pub piece-tail : {t : Tail} {j : ℕ} → piece x s i ≡ got (inr t) j → end x s i ≡ got t j
+  pub piece-tail : {t : Tail} {j : ℕ} → piece m x s i ≡ got (inr t) j → end x s i ≡ got t j
   unfolding piece
   piece-tail {t} {j} e = go (end x s i) (subst (λ (r : Read (Placed × Stage)). follow s i r (λ b. pure (inl b)) (map inr (end x)) ≡ got (inr t) j) (piece-none e) e)
     where
@@ -84,9 +85,9 @@ module _ (x : Stage) (s : List ℕ) (i : ℕ) where
       go (refused k p) e = cc
 
   -- a refusal: what is left of the rule is refused
-  pub piece-refusal : {A : Type 0} (f : List Placed × Tail → A) {k p : ℕ} → piece x s i ≡ refused k p → map f (chain more end x) s i ≡ refused k p
+  pub piece-refusal : {A : Type 0} (f : List Placed × Tail → A) {k p : ℕ} → piece m x s i ≡ refused k p → map f (chain (more m) end x) s i ≡ refused k p
   unfolding piece
-  piece-refusal {A} f {k} {p} e = go (more x s i) refl e
+  piece-refusal {A} f {k} {p} e = go (more m x s i) refl e
     where
       again : (l r : ℕ) → _≡_ {A = Read Piece} (refused l r) (refused k p) → _≡_ {A = Read A} (refused l r) (refused k p)
       again l r e = let h : l ≡ k = cc in let q : r ≡ p = cc in rw (h, q)
@@ -96,10 +97,10 @@ module _ (x : Stage) (s : List ℕ) (i : ℕ) where
       ended none e = absurd (let z : _≡_ {A = ℕ} 0 1 = cc in omega arith)
       ended (refused l r) e = again l r e
 
-      go : (r : Read (Placed × Stage)) → more x s i ≡ r → follow {B = Piece} s i r (λ b. pure (inl b)) (map inr (end x)) ≡ refused k p → map f (chain more end x) s i ≡ refused k p
+      go : (r : Read (Placed × Stage)) → more m x s i ≡ r → follow {B = Piece} s i r (λ b. pure (inl b)) (map inr (end x)) ≡ refused k p → map f (chain (more m) end x) s i ≡ refused k p
       go (got b l) h e = absurd (let z : _≡_ {A = ℕ} 0 1 = cc in omega arith)
-      go none h e = piece-end f x s i h ∙ ended (end x s i) e
-      go (refused l r) h e = piece-refused f x s i h ∙ again l r e
+      go none h e = piece-end m f x s i h ∙ ended (end x s i) e
+      go (refused l r) h e = piece-refused m f x s i h ∙ again l r e
 
 -- ---- what is always there, or refused
 
@@ -115,9 +116,9 @@ pub end-sure : (x : Stage) (s : List ℕ) (i : ℕ) → end x s i ≡ none → �
 end-sure x s i = sure (ended s i x)
 
 -- and is read or refused
-pub rule-sure : (separator : ℕ) (s : List ℕ) (i : ℕ) → Sure (rule separator s i)
+pub rule-sure : (m : Manner) (separator : ℕ) (s : List ℕ) (i : ℕ) → Sure (rule m separator s i)
 unfolding rule opening behind
-rule-sure separator s i =
+rule-sure m separator s i =
     let plain : Reader Opening = pure (openingOf Beginning noComment) in
-    then-sure s i (behind i separator) (opening s i) (or-sure s i (always s i) (branch wideComment pure plain) (or-sure s i (wideComment s i) plain tt)) (λ o j.
-    then-sure s j (λ r. pure (ruleOf i separator (o .comment) r)) (chain more end (o .stage) s j) (chain-sure more end s (λ x. takes (more-local {u = []} x) s) (λ x k _. ended s k x) (o .stage) j) (λ _ _. tt))
+    then-sure s i (behind m i separator) (opening s i) (or-sure s i (always s i) (branch wideComment pure plain) (or-sure s i (wideComment s i) plain tt)) (λ o j.
+    then-sure s j (λ r. pure (ruleOf i separator (o .comment) r)) (chain (more m) end (o .stage) s j) (chain-sure (more m) end s (λ x. takes (more-local {u = []} m x) s) (λ x k _. ended s k x) (o .stage) j) (λ _ _. tt))

@@ -22,6 +22,7 @@ use Rattle.names.proofs.Ended.{byte-ended, atEnd-ended}
 use Rattle.names.proofs.Chains.{step-moves, chain-moves, chain-local, chain-takes, many-local}
 use Rattle.names.proofs.Cut.{byte-local, blanks-local, blank-local, comma-local}
 use Rattle.names.proofs.NameCut.{plain, allOf-local, name-local}
+use Rattle.names.specs.declared.Manner.{Manner}
 use Rattle.items.specs.Kinds.{apart, Placed}
 use Rattle.items.specs.declared.Kind.{Kind}
 use Rattle.items.proofs.Cut.{missing-local, must-local, placedMoves, itemIn-local}
@@ -236,30 +237,30 @@ empty-local {k = k} =
 
 module _ {u : List ℕ} where
   -- an item, and the stage after it, which holds no place
-  pub itemFrom-local : (ks : List Kind) → Local Stop (step-moves placedMoves) u false false 1 (itemFrom ks) (itemFrom ks)
-  itemFrom-local ks = map-local (λ a. (a .0, After (a .1))) (λ a. (a .0, After (a .1))) (λ a. refl) (itemIn-local ks)
+  pub itemFrom-local : (m : Manner) (ks : List Kind) → Local Stop (step-moves placedMoves) u false false 1 (itemFrom m ks) (itemFrom m ks)
+  itemFrom-local m ks = map-local (λ a. (a .0, After (a .1))) (λ a. (a .0, After (a .1))) (λ a. refl) (itemIn-local m ks)
 
-  pub afterColon-local : Local Stop (step-moves placedMoves) u false false 1 afterColon afterColon
-  afterColon-local = must-local (then-local blank-local (λ _. free (itemFrom-local small)))
+  pub afterColon-local : (m : Manner) → Local Stop (step-moves placedMoves) u false false 1 (afterColon m) (afterColon m)
+  afterColon-local m = must-local (then-local blank-local (λ _. free (itemFrom-local m small)))
 
-  goesOn-local : (k : Kind) → Local Stop (step-moves placedMoves) u false false 1 (goesOn k) (goesOn k)
+  goesOn-local : (m : Manner) (k : Kind) → Local Stop (step-moves placedMoves) u false false 1 (goesOn m k) (goesOn m k)
   unfolding goesOn
-  goesOn-local k = then-local comma-local (λ _. free (must-local (itemFrom-local (listed k))))
+  goesOn-local m k = then-local comma-local (λ _. free (must-local (itemFrom-local m (listed k))))
 
   pub colonSign-local : (k : Kind) → Local Stop keep u false false 1 (colonSign k) (colonSign k)
   unfolding colonSign
   colonSign-local k = loose (bind-local {k = 0} (only-local (isWide k)) (λ _. byte-local 58 refl refl)) (omega arith)
 
-  colon-local : (k : Kind) → Local Stop (step-moves placedMoves) u false false 1 (colon k) (colon k)
+  colon-local : (m : Manner) (k : Kind) → Local Stop (step-moves placedMoves) u false false 1 (colon m k) (colon m k)
   unfolding colon
-  colon-local k = then-local (colonSign-local k) (λ _. free afterColon-local)
+  colon-local m k = then-local (colonSign-local k) (λ _. free (afterColon-local m))
 
-  pub more-local : (x : Stage) → Local Stop (step-moves placedMoves) u false false 1 (more x) (more x)
+  pub more-local : (m : Manner) (x : Stage) → Local Stop (step-moves placedMoves) u false false 1 (more m x) (more m x)
   unfolding more
-  more-local Beginning = itemFrom-local first
-  more-local Always = nothing-local
-  more-local Colon = afterColon-local
-  more-local (After k) = or-local (goesOn-local k) (or-local (colon-local k) (then-local blank-local (λ _. free (itemFrom-local (following k)))))
+  more-local m Beginning = itemFrom-local m first
+  more-local m Always = nothing-local
+  more-local m Colon = afterColon-local m
+  more-local m (After k) = or-local (goesOn-local m k) (or-local (colon-local m k) (then-local blank-local (λ _. free (itemFrom-local m (following k)))))
 
   pub end-local : (x : Stage) → Local Stop tailMoves u false false 0 (end x) (end x)
   unfolding end plainEnd
@@ -274,12 +275,12 @@ module _ {u : List ℕ} where
   beginning-end = or-local modifier-local (or-local empty-local missing-local)
 
   -- the pieces of a rule
-  pub pieces-local : (x : Stage) → Local Stop piecesMoves u false false 0 (chain more end x) (chain more end x)
-  pieces-local x = chain-local placedMoves more-local end-local x
+  pub pieces-local : (m : Manner) (x : Stage) → Local Stop piecesMoves u false false 0 (chain (more m) end x) (chain (more m) end x)
+  pieces-local m x = chain-local placedMoves (more-local m) end-local x
 
   -- from the beginning, they and the end take a byte
-  pub beginning-local : Local Stop piecesMoves u false false 1 (chain more end Beginning) (chain more end Beginning)
-  beginning-local = chain-takes placedMoves more-local end-local Beginning beginning-end
+  pub beginning-local : (m : Manner) → Local Stop piecesMoves u false false 1 (chain (more m) end Beginning) (chain (more m) end Beginning)
+  beginning-local m = chain-takes placedMoves (more-local m) end-local Beginning beginning-end
 
 -- ---- a rule
 
@@ -319,30 +320,30 @@ or-then-moved {Q = Q} {sh₂ = sh₂} {u} {a} {c = c} {k} {m′} {m} n′ n f′
       near = λ s i h. rw (or-then m n f s i) (G .near s i h);
     }
 
-module _ {u : List ℕ} (separator : ℕ) where
+module _ {u : List ℕ} (m : Manner) (separator : ℕ) where
   -- what is behind an opening takes the bytes that its pieces and its end do
-  behind-takes : {k : ℕ} (place : ℕ) (o : Opening) → Local Stop piecesMoves u false false k (chain more end o.stage) (chain more end o.stage) →
-      Local Stop ruleMoves u false false k (behind (length u + place) separator (openingMoves (length u) o)) (behind place separator o)
+  behind-takes : {k : ℕ} (place : ℕ) (o : Opening) → Local Stop piecesMoves u false false k (chain (more m) end o.stage) (chain (more m) end o.stage) →
+      Local Stop ruleMoves u false false k (behind m (length u + place) separator (openingMoves (length u) o)) (behind m place separator o)
   unfolding behind
   behind-takes place o M = map-local (ruleOf (length u + place) separator (commentMoves (length u) o.comment)) (ruleOf place separator o.comment) (rule-moves (length u) place separator o.comment) M
 
-  pub behind-local : (place : ℕ) (o : Opening) → Local Stop ruleMoves u false false 0 (behind (length u + place) separator (openingMoves (length u) o)) (behind place separator o)
-  behind-local place o = behind-takes place o (pieces-local o.stage)
+  pub behind-local : (place : ℕ) (o : Opening) → Local Stop ruleMoves u false false 0 (behind m (length u + place) separator (openingMoves (length u) o)) (behind m place separator o)
+  behind-local place o = behind-takes place o (pieces-local m o.stage)
 
   -- a rule takes a byte: its opening does, or what is behind none
-  opened-local : (place : ℕ) → Local Stop ruleMoves u false false 1 (branch opening (behind (length u + place) separator) nothing) (branch opening (behind place separator) nothing)
+  opened-local : (place : ℕ) → Local Stop ruleMoves u false false 1 (branch opening (behind m (length u + place) separator) nothing) (branch opening (behind m place separator) nothing)
   unfolding opening
   opened-local place =
-      let f : ℕ → Opening → Reader Rule = λ p. behind p separator in
+      let f : ℕ → Opening → Reader Rule = λ p. behind m p separator in
       let o : Opening = openingOf Beginning noComment in
       let n : Reader Opening = branch wideComment pure (pure o) in
       or-then-moved n n (f (length u + place)) (f place) (loose always-local (omega arith)) (behind-local place)
-      (or-then-moved (pure o) (pure o) (f (length u + place)) (f place) (loose wideComment-local (omega arith)) (behind-local place) (behind-takes place o beginning-local))
+      (or-then-moved (pure o) (pure o) (f (length u + place)) (f place) (loose wideComment-local (omega arith)) (behind-local place) (behind-takes place o (beginning-local m)))
 
-  pub rule-local : Local Stop ruleMoves u false false 1 (rule separator) (rule separator)
+  pub rule-local : Local Stop ruleMoves u false false 1 (rule m separator) (rule m separator)
   unfolding rule
   rule-local =
-      let f : ℕ → Reader Rule = λ p. branch opening (behind p separator) nothing in
+      let f : ℕ → Reader Rule = λ p. branch opening (behind m p separator) nothing in
       loose (branch-moved f f here-local opened-local nothing-local) (omega arith)
 
 -- ---- what parts rules

@@ -16,6 +16,7 @@ use Rattle.names.specs.Names as names
 use Rattle.names.proofs.Laws.{one-is}
 use Rattle.names.proofs.Search.{word-letter}
 use Rattle.names.proofs.Skips.{map-map}
+use Rattle.names.specs.declared.Manner.{Manner}
 use Rattle.items.specs.Musts.{missing, must}
 use Rattle.items.specs.Kinds.{apart, Placed, itemIn}
 use Rattle.items.specs.declared.Kind.{Kind}
@@ -57,7 +58,7 @@ items a = pure (inl a)
 abbrev ends : Tail → Reader Piece
 ends t = pure (inr t)
 
-module _ (s : List ℕ) (i : ℕ) where
+module _ (m : Manner) (s : List ℕ) (i : ℕ) where
   -- an end that is read in two ways, or a plain one
   or-ends : (r : Read Tail) (n : Reader Tail) → follow s i (follow s i r pure n) ends nothing ≡ follow s i r ends (map inr n)
   or-ends (got t j) n = refl
@@ -66,9 +67,9 @@ module _ (s : List ℕ) (i : ℕ) where
 
   -- ---- at the beginning
 
-  pub first-piece : piece Beginning s i ≡ branch (itemFrom first) items (branch modifier ends (λ s _. map inr (plainEnd Beginning) s i)) s i
+  pub first-piece : piece m Beginning s i ≡ branch (itemFrom m first) items (branch modifier ends (λ s _. map inr (plainEnd Beginning) s i)) s i
   unfolding piece more end
-  first-piece = go (itemFrom first s i)
+  first-piece = go (itemFrom m first s i)
     where
       go : (r : Read (Placed × Stage)) → follow s i r items (map inr (modifier or plainEnd Beginning)) ≡ follow s i r items (branch modifier ends (λ s _. map inr (plainEnd Beginning) s i))
       go (got a j) = refl
@@ -83,8 +84,8 @@ module _ (s : List ℕ) (i : ℕ) where
   -- ---- after a colon
 
   -- a blank, and then the item that has to stand there
-  pub colon-blank : {j : ℕ} → blank s i ≡ got tt j → map inl afterColon s i ≡ map {B = Piece} inl (must (itemFrom small)) s j
-  colon-blank {j} e = rw e (go (itemFrom small s j))
+  pub colon-blank : {j : ℕ} → blank s i ≡ got tt j → map inl (afterColon m) s i ≡ map {B = Piece} inl (must (itemFrom m small)) s j
+  colon-blank {j} e = rw e (go (itemFrom m small s j))
     where
       go : (r : Read (Placed × Stage)) → follow s i (follow s i r pure missing) items nothing ≡ follow s j (follow s j r pure missing) items nothing
       go (got a k) = refl
@@ -97,7 +98,7 @@ module _ (s : List ℕ) (i : ℕ) where
       go (refused k p) = refl
 
   -- no blank: nothing of any kind
-  pub colon-bare : blank s i ≡ none → map inl afterColon s i ≡ map {B = Piece} inl (must (itemFrom [])) s i
+  pub colon-bare : blank s i ≡ none → map inl (afterColon m) s i ≡ map {B = Piece} inl (must (itemFrom m [])) s i
   unfolding itemIn
   colon-bare e = rw e
 
@@ -105,10 +106,10 @@ module _ (s : List ℕ) (i : ℕ) where
 
   module _ (ks : List Kind) (x : Stage) where
     abbrev afterBlank : Read Piece
-    afterBlank = branch (apart (itemFrom ks)) items (branch (apart modifier) ends (map inr (plainEnd x))) s i
+    afterBlank = branch (apart (itemFrom m ks)) items (branch (apart modifier) ends (map inr (plainEnd x))) s i
 
-    pub blank-on : {j : ℕ} → blank s i ≡ got tt j → afterBlank ≡ branch (itemFrom ks) items (branch modifier ends (λ s _. map inr (plainEnd x) s i)) s j
-    blank-on {j} e = rw e (go (itemFrom ks s j))
+    pub blank-on : {j : ℕ} → blank s i ≡ got tt j → afterBlank ≡ branch (itemFrom m ks) items (branch modifier ends (λ s _. map inr (plainEnd x) s i)) s j
+    blank-on {j} e = rw e (go (itemFrom m ks s j))
       where
         end′ : (r : Read Tail) → follow s i r ends (map inr (plainEnd x)) ≡ follow s j r ends (λ s _. map inr (plainEnd x) s i)
         end′ (got t k) = refl
@@ -124,33 +125,33 @@ module _ (s : List ℕ) (i : ℕ) where
     blank-off e = rw e (rw e)
 
   -- `24/7`
-  pub always-piece : piece Always s i ≡ branch (apart (itemFrom [])) items (branch (apart modifier) ends (map inr (plainEnd Always))) s i
+  pub always-piece : piece m Always s i ≡ branch (apart (itemFrom m [])) items (branch (apart modifier) ends (map inr (plainEnd Always))) s i
   unfolding piece more end itemIn
   always-piece = go (blank s i) refl
     where
-      go : (r : Read (Unit {0})) → blank s i ≡ r → map inr (end Always) s i ≡ follow s i (follow s i r (λ _. itemFrom []) nothing) items (branch (apart modifier) ends (map inr (plainEnd Always)))
+      go : (r : Read (Unit {0})) → blank s i ≡ r → map inr (end Always) s i ≡ follow s i (follow s i r (λ _. itemFrom m []) nothing) items (branch (apart modifier) ends (map inr (plainEnd Always)))
       go (got tt j) e = or-ends (apart modifier s i) (plainEnd Always)
       go none e = or-ends (apart modifier s i) (plainEnd Always)
       go (refused k p) e = rw e
 
   -- the comment of a wide part, and its colon
-  pub colon-piece : piece Colon s i ≡ map inl afterColon s i
+  pub colon-piece : piece m Colon s i ≡ map inl (afterColon m) s i
   unfolding piece more
-  colon-piece = sure-then s i i inl (afterColon s i) (map inr (end Colon)) (must-sure s i (apart (itemFrom small)))
+  colon-piece = sure-then s i i inl (afterColon m s i) (map inr (end Colon)) (must-sure s i (apart (itemFrom m small)))
 
   -- ---- after an item
 
   module _ (k : Kind) where
-    pub comma-piece : {j : ℕ} → comma s i ≡ got tt j → piece (After k) s i ≡ map inl (must (itemFrom (listed k))) s j
+    pub comma-piece : {j : ℕ} → comma s i ≡ got tt j → piece m (After k) s i ≡ map inl (must (itemFrom m (listed k))) s j
     unfolding piece more goesOn
     comma-piece {j} e =
-        let m = must (itemFrom (listed k)) in
-        rw e (ap (λ (r : Read (Placed × Stage)). follow s i r items (map inr (end (After k)))) (sure-or s i (m s j) (colon k or apart (itemFrom (following k))) (must-sure s j (itemFrom (listed k)))) ∙ sure-then s i j inl (m s j) (map inr (end (After k))) (must-sure s j (itemFrom (listed k))))
+        let n = must (itemFrom m (listed k)) in
+        rw e (ap (λ (r : Read (Placed × Stage)). follow s i r items (map inr (end (After k)))) (sure-or s i (n s j) (colon m k or apart (itemFrom m (following k))) (must-sure s j (itemFrom m (listed k)))) ∙ sure-then s i j inl (n s j) (map inr (end (After k))) (must-sure s j (itemFrom m (listed k))))
 
-    pub wide-piece : {j : ℕ} → comma s i ≡ none → colonSign k s i ≡ got tt j → piece (After k) s i ≡ map inl afterColon s j
+    pub wide-piece : {j : ℕ} → comma s i ≡ none → colonSign k s i ≡ got tt j → piece m (After k) s i ≡ map inl (afterColon m) s j
     unfolding piece more goesOn colon
     wide-piece {j} c e =
-        rw (c, e) (ap (λ (r : Read (Placed × Stage)). follow s i r items (map inr (end (After k)))) (sure-or s i (afterColon s j) (apart (itemFrom (following k))) (must-sure s j (apart (itemFrom small)))) ∙ sure-then s i j inl (afterColon s j) (map inr (end (After k))) (must-sure s j (apart (itemFrom small))))
+        rw (c, e) (ap (λ (r : Read (Placed × Stage)). follow s i r items (map inr (end (After k)))) (sure-or s i (afterColon m s j) (apart (itemFrom m (following k))) (must-sure s j (apart (itemFrom m small)))) ∙ sure-then s i j inl (afterColon m s j) (map inr (end (After k))) (must-sure s j (apart (itemFrom m small))))
 
     -- neither a comma nor a colon
     after-end : map inr (end (After k)) s i ≡ branch (apart modifier) ends (map inr (plainEnd (After k))) s i
@@ -162,41 +163,41 @@ module _ (s : List ℕ) (i : ℕ) where
     after-blank none = after-end
     after-blank (refused n p) = refl
 
-    pub bare-piece : comma s i ≡ none → colonSign k s i ≡ none → piece (After k) s i ≡ branch (apart (itemFrom (following k))) items (branch (apart modifier) ends (map inr (plainEnd (After k)))) s i
+    pub bare-piece : comma s i ≡ none → colonSign k s i ≡ none → piece m (After k) s i ≡ branch (apart (itemFrom m (following k))) items (branch (apart modifier) ends (map inr (plainEnd (After k)))) s i
     unfolding piece more goesOn colon
-    bare-piece c e = rw (c, e) (after-blank (apart (itemFrom (following k)) s i))
+    bare-piece c e = rw (c, e) (after-blank (apart (itemFrom m (following k)) s i))
 
 -- ---- from the look at the place j where the rule goes on
 
-module _ (s : List ℕ) (j : ℕ) (ks : List Kind) where
+module _ (m : Manner) (s : List ℕ) (j : ℕ) (ks : List Kind) where
   -- an item that has to stand there
   abbrev has : Read Piece
-  has = map inl (must (itemFrom ks)) s j
+  has = map inl (must (itemFrom m ks)) s j
 
-  pub has-item : {a : Placed} {k : Kind} {l : ℕ} → itemIn ks s j ≡ got (a, k) l → has ≡ got (inl (a, After k)) l
+  pub has-item : {a : Placed} {k : Kind} {l : ℕ} → itemIn m ks s j ≡ got (a, k) l → has ≡ got (inl (a, After k)) l
   has-item e = rw e
 
-  pub has-refused : {n p : ℕ} → itemIn ks s j ≡ refused n p → has ≡ refused n p
+  pub has-refused : {n p : ℕ} → itemIn m ks s j ≡ refused n p → has ≡ refused n p
   has-refused e = rw e
 
-  pub has-none : itemIn ks s j ≡ none → has ≡ map inl missing s j
+  pub has-none : itemIn m ks s j ≡ none → has ≡ map inl missing s j
   has-none e = rw e
 
   -- or may
   module _ (x : Stage) (i : ℕ) where
     abbrev may : Read Piece
-    may = branch (itemFrom ks) items (branch modifier ends (λ s _. map inr (plainEnd x) s i)) s j
+    may = branch (itemFrom m ks) items (branch modifier ends (λ s _. map inr (plainEnd x) s i)) s j
 
-    pub may-item : {a : Placed} {k : Kind} {l : ℕ} → itemIn ks s j ≡ got (a, k) l → may ≡ got (inl (a, After k)) l
+    pub may-item : {a : Placed} {k : Kind} {l : ℕ} → itemIn m ks s j ≡ got (a, k) l → may ≡ got (inl (a, After k)) l
     may-item e = rw e
 
-    pub may-refused : {n p : ℕ} → itemIn ks s j ≡ refused n p → may ≡ refused n p
+    pub may-refused : {n p : ℕ} → itemIn m ks s j ≡ refused n p → may ≡ refused n p
     may-refused e = rw e
 
     -- a modifier's name
-    pub may-modifier : {n v l : ℕ} → itemIn ks s j ≡ none → word s j ≡ got (n, v) l → n ≡ names.modifier → may ≡ map inr (withComment v) s l
+    pub may-modifier : {n v l : ℕ} → itemIn m ks s j ≡ none → word s j ≡ got (n, v) l → n ≡ names.modifier → may ≡ map inr (withComment v) s l
     unfolding modifier
-    may-modifier {n} {v} {l} e w m = rw (e, name-is s j names.modifier w m) (go (withComment v s l) (with-comment-sure s v l))
+    may-modifier {n} {v} {l} e w q = rw (e, name-is s j names.modifier w q) (go (withComment v s l) (with-comment-sure s v l))
       where
         go : (r : Read Tail) → Sure r → follow s j (follow s j r pure (map (tailOf 0) comment)) ends (λ s _. map inr (plainEnd x) s i) ≡ follow s l r ends nothing
         go (got t q) h = refl
@@ -204,13 +205,13 @@ module _ (s : List ℕ) (j : ℕ) (ks : List Kind) where
         go (refused q p) h = refl
 
     -- another name: no comment stands there
-    pub may-other : {n v l : ℕ} → itemIn ks s j ≡ none → word s j ≡ got (n, v) l → (n ≡ names.modifier → ⊥) → may ≡ map inr (plainEnd x) s i
+    pub may-other : {n v l : ℕ} → itemIn m ks s j ≡ none → word s j ≡ got (n, v) l → (n ≡ names.modifier → ⊥) → may ≡ map inr (plainEnd x) s i
     unfolding modifier comment byte
-    may-other {n} {v} {l} e w m =
-        rw (e, name-other s j names.modifier w m, one-is (eqb 34) refl s j refl (ne-eqb 34 (getD s j 0) (λ q. omega (arith, word-letter s j w))))
+    may-other {n} {v} {l} e w q =
+        rw (e, name-other s j names.modifier w q, one-is (eqb 34) refl s j refl (ne-eqb 34 (getD s j 0) (λ q. omega (arith, word-letter s j w))))
 
     -- no name
-    pub may-unnamed : itemIn ks s j ≡ none → word s j ≡ none → may ≡ branch comment (λ m. pure (inr (tailOf 0 m))) (λ s _. map inr (plainEnd x) s i) s j
+    pub may-unnamed : itemIn m ks s j ≡ none → word s j ≡ none → may ≡ branch comment (λ m. pure (inr (tailOf 0 m))) (λ s _. map inr (plainEnd x) s i) s j
     unfolding modifier
     may-unnamed e w = rw (e, name-none s j names.modifier w) (go (comment s j))
       where
@@ -221,14 +222,14 @@ module _ (s : List ℕ) (j : ℕ) (ks : List Kind) where
 
 -- ---- the same of a turn
 
-module _ (s : List ℕ) (x : Stage) (i : ℕ) (c : Cursor) (set : ℕ) where
-  pub turned-item : (m : Bool) {a : Placed} {k : Kind} {l : ℕ} → itemIn (kindsOf set) s (c .at) ≡ got (a, k) l → turned s x i (On c set m) ≡ got (inl (a, After k)) l
-  turned-item true e = has-item s (c .at) (kindsOf set) e
-  turned-item false e = may-item s (c .at) (kindsOf set) x i e
+module _ (m : Manner) (s : List ℕ) (x : Stage) (i : ℕ) (c : Cursor) (set : ℕ) where
+  pub turned-item : (b : Bool) {a : Placed} {k : Kind} {l : ℕ} → itemIn m (kindsOf set) s (c .at) ≡ got (a, k) l → turned m s x i (On c set b) ≡ got (inl (a, After k)) l
+  turned-item true e = has-item m s (c .at) (kindsOf set) e
+  turned-item false e = may-item m s (c .at) (kindsOf set) x i e
 
-  pub turned-refused : (m : Bool) {n p : ℕ} → itemIn (kindsOf set) s (c .at) ≡ refused n p → turned s x i (On c set m) ≡ refused n p
-  turned-refused true e = has-refused s (c .at) (kindsOf set) e
-  turned-refused false e = may-refused s (c .at) (kindsOf set) x i e
+  pub turned-refused : (b : Bool) {n p : ℕ} → itemIn m (kindsOf set) s (c .at) ≡ refused n p → turned m s x i (On c set b) ≡ refused n p
+  turned-refused true e = has-refused m s (c .at) (kindsOf set) e
+  turned-refused false e = may-refused m s (c .at) (kindsOf set) x i e
 
 -- ---- nothing was read
 

@@ -4,6 +4,7 @@ use mathlib.Core.Logic.{_⊎_, inl, inr}
 use Rattle.names.specs.Read.{Reader, branch, nothing, pure, refuse, here, map, only, _>>_, _>>=_, _or_}
 use Rattle.names.specs.Texts.{sign, comma}
 use Rattle.names.specs.Refusals.{emptyRule}
+use Rattle.names.specs.declared.Manner.{Manner}
 use Rattle.items.specs.Musts.{missing, must}
 use Rattle.items.specs.Kinds.{apart, Placed, itemIn}
 use Rattle.items.specs.declared.Kind.{Kind}
@@ -16,18 +17,18 @@ use Rattle.rules.specs.declared.Stage.{Stage}
 use Rattle.rules.specs.declared.Stage.the-variants.{Beginning, Always, Colon, After}
 
 -- an item of these kinds, which was read last then
-abbrev pub itemFrom : List Kind → Reader (Placed × Stage)
-itemFrom ks = map (λ a. (a .0, After (a .1))) (itemIn ks)
+abbrev pub itemFrom : Manner → List Kind → Reader (Placed × Stage)
+itemFrom m ks = map (λ a. (a .0, After (a .1))) (itemIn m ks)
 
 -- after a comma the list goes on
-unfoldable pub goesOn : Kind → Reader (Placed × Stage)
-goesOn k = do
+unfoldable pub goesOn : Manner → Kind → Reader (Placed × Stage)
+goesOn m k = do
   comma
-  must (itemFrom (listed k))
+  must (itemFrom m (listed k))
 
 -- a colon needs a blank and a small part after it
-abbrev pub afterColon : Reader (Placed × Stage)
-afterColon = must (apart (itemFrom small))
+abbrev pub afterColon : Manner → Reader (Placed × Stage)
+afterColon m = must (apart (itemFrom m small))
 
 -- a wide part may end in a colon
 unfoldable pub colonSign : Kind → Reader (Unit {0})
@@ -35,17 +36,17 @@ colonSign k = do
   only (isWide k)
   sign ":"
 
-unfoldable pub colon : Kind → Reader (Placed × Stage)
-colon k = do
+unfoldable pub colon : Manner → Kind → Reader (Placed × Stage)
+colon m k = do
   colonSign k
-  afterColon
+  afterColon m
 
 -- what may stand after what was read last: an item, and what was read last then
-unfoldable pub more : Stage → Reader (Placed × Stage)
-more Beginning = itemFrom first
-more Always = nothing
-more Colon = afterColon
-more (After k) = goesOn k or colon k or apart (itemFrom (following k))
+unfoldable pub more : Manner → Stage → Reader (Placed × Stage)
+more m Beginning = itemFrom m first
+more m Always = nothing
+more m Colon = afterColon m
+more m (After k) = goesOn m k or colon m k or apart (itemFrom m (following k))
 
 -- an empty rule: nothing but blanks up to the text's end or a separator
 unfoldable pub empty : Reader Tail
@@ -69,5 +70,5 @@ end Colon = apart modifier or plainEnd Colon
 end (After k) = apart modifier or plainEnd (After k)
 
 -- a piece of a rule: an item, or else the rule's end
-unfoldable pub piece : Stage → Reader ((Placed × Stage) ⊎ Tail)
-piece x = branch (more x) (λ a. pure (inl a)) (map inr (end x))
+unfoldable pub piece : Manner → Stage → Reader ((Placed × Stage) ⊎ Tail)
+piece m x = branch (more m x) (λ a. pure (inl a)) (map inr (end x))

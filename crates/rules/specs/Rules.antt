@@ -11,6 +11,7 @@ use Rattle.items.specs.Kinds.{Placed}
 use Rattle.rules.specs.Comments.{noComment, comment}
 use Rattle.rules.specs.Pieces.{more, end}
 use Rattle.rules.specs.declared.Comment.{Comment}
+use Rattle.names.specs.declared.Manner.{Manner}
 use Rattle.names.specs.declared.Cursor.{Cursor}
 use Rattle.rules.specs.declared.Opening.{Opening}
 use Rattle.rules.specs.declared.OpeningRead.{OpeningRead}
@@ -62,16 +63,16 @@ abbrev pub ruleOf : ℕ → ℕ → Comment → List Placed × Tail → Rule
 ruleOf place separator wide r = (headOf place separator (r .1) wide (length (r .0)), r .0)
 
 -- the pieces of a rule that begins at a place, behind its opening
-unfoldable pub behind : ℕ → ℕ → Opening → Reader Rule
-behind place separator o = map (ruleOf place separator o.comment) (chain more end o.stage)
+unfoldable pub behind : Manner → ℕ → ℕ → Opening → Reader Rule
+behind m place separator o = map (ruleOf place separator o.comment) (chain (more m) end o.stage)
 
 -- a rule: its place is where it begins
-unfoldable pub rule : ℕ → Reader Rule
-rule separator = do
+unfoldable pub rule : Manner → ℕ → Reader Rule
+rule m separator = do
   p ← here
   o ← opening
-  behind p separator o
+  behind m p separator o
 
 -- a rule's head alone
-abbrev pub counted : ℕ → Reader Head
-counted separator = map (λ r. r .0) (rule separator)
+abbrev pub counted : Manner → ℕ → Reader Head
+counted m separator = map (λ r. r .0) (rule m separator)

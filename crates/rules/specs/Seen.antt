@@ -5,6 +5,7 @@ use mathlib.Core.List.{List}
 use mathlib.Core.Path.{_≡_}
 use mathlib.Core.Logic.{_⊎_, inl, inr}
 use Rattle.names.specs.Read.{Read, got, none, refused, branch, pure, map}
+use Rattle.names.specs.declared.Manner.{Manner}
 use Rattle.items.specs.Musts.{missing, must}
 use Rattle.items.specs.Kinds.{apart, Placed}
 use Rattle.items.specs.Sets.{kindsOf}
@@ -47,18 +48,18 @@ abbrev pub Lacks : List ℕ → ℕ → Piece → Type 0
 Lacks s i r = (map inl missing s i ≡ seenPiece r) × (map inr missing s i ≡ seenPiece r)
 
 -- where a rule with this stage and place goes on: with an item that has to stand there; or with one that may, or a modifier; or it ends
-abbrev pub turned : List ℕ → Stage → ℕ → Turn → Read ((Placed × Stage) ⊎ Tail)
-turned s x i (turn.On c set true) = map inl (must (itemFrom (kindsOf set))) s (c .at)
-turned s x i (turn.On c set false) = branch (itemFrom (kindsOf set)) (λ a. pure (inl a)) (branch modifier (λ t. pure (inr t)) (λ s _. map inr (plainEnd x) s i)) s (c .at)
-turned s x i turn.Over = map inr (plainEnd x) s i
+abbrev pub turned : Manner → List ℕ → Stage → ℕ → Turn → Read ((Placed × Stage) ⊎ Tail)
+turned m s x i (turn.On c set true) = map inl (must (itemFrom m (kindsOf set))) s (c .at)
+turned m s x i (turn.On c set false) = branch (itemFrom m (kindsOf set)) (λ a. pure (inl a)) (branch modifier (λ t. pure (inr t)) (λ s _. map inr (plainEnd x) s i)) s (c .at)
+turned m s x i turn.Over = map inr (plainEnd x) s i
 
 -- the turn of a rule after a colon, at c
 abbrev pub ColonTurns : List ℕ → ℕ → Turn → Type 0
-ColonTurns s c r = (x : Stage) (i : ℕ) → map inl afterColon s c ≡ turned s x i r
+ColonTurns s c r = (m : Manner) (x : Stage) (i : ℕ) → map inl (afterColon m) s c ≡ turned m s x i r
 
 -- the turn of a rule after selectors, at c: after a blank one of these kinds may stand, or a modifier
 abbrev pub BlankTurns : List Kind → List ℕ → ℕ → Turn → Type 0
-BlankTurns ks s c r = (x : Stage) → branch (apart (itemFrom ks)) (λ a. pure (inl a)) (branch (apart modifier) (λ t. pure (inr t)) (map inr (plainEnd x))) s c ≡ turned s x c r
+BlankTurns ks s c r = (m : Manner) (x : Stage) → branch (apart (itemFrom m ks)) (λ a. pure (inl a)) (branch (apart modifier) (λ t. pure (inr t)) (map inr (plainEnd x))) s c ≡ turned m s x c r
 
 -- what is always there, if only as nothing, or refused
 abbrev pub seenOpening : OpeningRead → Read Opening

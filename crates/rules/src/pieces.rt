@@ -2,6 +2,7 @@
 ghost use mathlib.Core.Logic.{inl, inr};
 ghost use mathlib.Core.Path.{_≡_};
 ghost use Rattle.names.specs.Read.{branch, pure, map};
+ghost use Rattle.names.specs.declared.Manner.{Manner};
 ghost use Rattle.names.specs.Seen.{seenStep};
 ghost use Rattle.items.specs.Sets.{kindsOf};
 ghost use Rattle.rules.specs.Comments.{comment};
@@ -33,6 +34,7 @@ use items::missing;
 use names::Cursor;
 use names::EMPTY_RULE;
 use names::MODIFIER;
+use names::Manner;
 use names::Step;
 
 // After a colon a blank and a small part have to stand.
@@ -70,7 +72,7 @@ fn colon_sign(s: &[u8], c: Cursor, kind: Kind) -> Step
 
 // After an item of this kind.
 fn after_item(s: &[u8], c: Cursor, kind: Kind) -> Turn
-    ensures { λ r. ⌜ pieces.piece (stage.After kind) (now (s .entry)) (c .at) ≡ turned (now (s .entry)) (stage.After kind) (c .at) r ⌝ }
+    ensures { λ r. ⌜ ((m : Manner) → pieces.piece m (stage.After kind) (now (s .entry)) (c .at) ≡ turned m (now (s .entry)) (stage.After kind) (c .at) r) ⌝ }
 {
     let comma = c.comma(s);
     if let Step::Got(d) = comma {
@@ -105,7 +107,7 @@ fn nothing_read(s: &[u8], c: Cursor) -> Piece
 impl Spot {
     // Where the rule goes on.
     fn turn(self, s: &[u8]) -> Turn
-        ensures { λ r. ⌜ pieces.piece (self .stage) (now (s .entry)) (self .at) ≡ turned (now (s .entry)) (self .stage) (self .at) r ⌝ }
+        ensures { λ r. ⌜ ((m : Manner) → pieces.piece m (self .stage) (now (s .entry)) (self .at) ≡ turned m (now (s .entry)) (self .stage) (self .at) r) ⌝ }
     {
         let c = Cursor { at: self.at };
         let stage = self.stage;
@@ -157,14 +159,14 @@ impl Spot {
     }
 
     // The next piece of a rule.
-    pub fn piece(self, s: &[u8]) -> Piece
-        ensures { λ r. ⌜ pieces.piece (self .stage) (now (s .entry)) (self .at) ≡ seenPiece r ⌝ }
+    pub fn piece(self, s: &[u8], m: Manner) -> Piece
+        ensures { λ r. ⌜ pieces.piece m (self .stage) (now (s .entry)) (self .at) ≡ seenPiece r ⌝ }
     {
         let turn = self.turn(s);
         let Turn::On(c, set, must) = turn else {
             return self.ended(s);
         };
-        let found = look_at(s, c, set);
+        let found = look_at(s, m, c, set);
         match found {
             Stands::Item(a, p, kind, d) => Piece::Item(a, p, kind, d),
             Stands::Refused(k, p) => Piece::Refused(k, p),

@@ -10,6 +10,7 @@ use lib.IntN.{ℤ}
 use lib.ListN.{length, take, drop, length-drop}
 use lib.Seq.{length-take-le}
 use borrow.Author.Tests.{lt-ltb, le-ltb}
+use Rattle.names.specs.declared.Manner.{Manner}
 use Rattle.names.specs.Tests.{if_then_else_}
 use Rattle.names.specs.Quotes.{flips}
 use Rattle.names.specs.Read.{Read, got, none, refused, follow, nothing, pure, map}
@@ -20,9 +21,12 @@ use Rattle.rules.specs.declared.Next.{Next}
 use Rattle.rules.specs.declared.Next.the-variants.{Another, Finished}
 use Rattle.sheet.specs.Texts.{moreRules, noMore, rules, records}
 use Rattle.sheet.specs.Warnings.{isLetter, warned, warningsIn, warningsOf}
-use Rattle.sheet.specs.Sheets.{answerOf, refusal, judgedText, textOf, sheetOf, sheetReadingBytes, wordsIn}
+use Rattle.sheet.specs.Sheets.{answerOf, refusal, judgedText, textOf, sheetBy, sheetReadingBytesBy, wordsIn}
 use Rattle.sheet.specs.Parts.{begins, partEnd}
-use Rattle.sheet.specs.PartReadings.{partAnswerOf, withNext, partTo, partRefusal, partOf, partReadingBytes}
+use Rattle.sheet.specs.PartReadings.{partAnswerOf, withNext, partTo, partRefusal, partBy, partReadingBytesBy}
+use Rattle.sheet.specs.Editions.{editionOf, inEdition, sheetReadingBytesIn, partReadingBytesIn}
+use Rattle.sheet.specs.declared.Edition.{Edition}
+use Rattle.sheet.specs.declared.Edition.the-variants.{Known, Unknown}
 use Rattle.sheet.specs.declared.Answer.{Answer}
 use Rattle.sheet.specs.declared.PartAnswer.{PartAnswer}
 use Rattle.sheet.proofs.Moves.{moreRules-ended, takes}
@@ -45,8 +49,8 @@ warnings-few inside letter (b ∷ s) = go (warned inside letter (b ∷ s) b) (wa
 -- ---- places and records
 
 -- a rule of a text is refused at one of its places
-more-near : (x : Next) (s : List ℕ) (i : ℕ) → i ≤ length s → Near (length s) (moreRules x s i)
-more-near x s i h = near-up (moreRules x s i) (omega arith) (moreRules-ended {u = []} x .near s i (omega arith))
+more-near : (m : Manner) (x : Next) (s : List ℕ) (i : ℕ) → i ≤ length s → Near (length s) (moreRules m x s i)
+more-near m x s i h = near-up (moreRules m x s i) (omega arith) (moreRules-ended m {u = []} x .near s i (omega arith))
 
 -- from the place i on there are no more records than bytes, and a refusal is at a place of the text
 abbrev Bounded : ℕ → ℕ → Read (List Rule × Unit {0}) → Type 0
@@ -54,7 +58,7 @@ Bounded n i (got l j) = i + length (records (l .0)) ≤ n
 Bounded n i none = Unit {0}
 Bounded n i (refused k p) = p ≤ n
 
-module _ (s : List ℕ) where
+module _ (m : Manner) (s : List ℕ) where
   -- a rule more
   bounded-more : (r : Rule) (i j : ℕ) → i + suc (length (r .1)) ≤ j → (x : Read (List Rule × Unit {0})) → Bounded (length s) j x → Bounded (length s) i (follow s j x (λ l. pure (before r l)) nothing)
   bounded-more r i j h (got l k) b = omega (arith, records-more r (l .0))
@@ -62,30 +66,30 @@ module _ (s : List ℕ) where
   bounded-more r i j h (refused e p) b = b
 
   -- no rule more
-  finished : (n i : ℕ) → i ≤ length s → Bounded (length s) i (follow s i (moreRules Finished s i) (λ c. map (before (c .0)) (chainIn n moreRules noMore (c .1))) (map last (noMore Finished)))
+  finished : (n i : ℕ) → i ≤ length s → Bounded (length s) i (follow s i (moreRules m Finished s i) (λ c. map (before (c .0)) (chainIn n (moreRules m) noMore (c .1))) (map last (noMore Finished)))
   unfolding moreRules noMore
   finished n i h = omega (arith, records-none)
 
-  bounded : (n : ℕ) (x : Next) (i : ℕ) → i ≤ length s → Bounded (length s) i (chainIn n moreRules noMore x s i)
+  bounded : (n : ℕ) (x : Next) (i : ℕ) → i ≤ length s → Bounded (length s) i (chainIn n (moreRules m) noMore x s i)
   unfolding chainIn noMore
   bounded zero x i h = tt
-  bounded (suc n) (Another q) i h = go (λ y j w. bounded n y j w) (moreRules (Another q) s i) (takes (Another q) s i) (more-takes q s i) (more-near (Another q) s i h)
+  bounded (suc n) (Another q) i h = go (λ y j w. bounded n y j w) (moreRules m (Another q) s i) (takes m (Another q) s i) (more-takes m q s i) (more-near m (Another q) s i h)
     where
-      go : ((y : Next) (j : ℕ) → j ≤ length s → Bounded (length s) j (chainIn n moreRules noMore y s j)) →
+      go : ((y : Next) (j : ℕ) → j ≤ length s → Bounded (length s) j (chainIn n (moreRules m) noMore y s j)) →
           (r : Read (Rule × Next)) → Ends (λ j. (i < j) × (j ≤ length s)) r → Upto (λ x k. i + suc (length (x .0 .1)) ≤ k) r → Near (length s) r →
-          Bounded (length s) i (follow s i r (λ c. map (before (c .0)) (chainIn n moreRules noMore (c .1))) (map last (noMore (Another q))))
-      go later (got c j) e f w = bounded-more (c .0) i j f (chainIn n moreRules noMore (c .1) s j) (later (c .1) j (e .1))
+          Bounded (length s) i (follow s i r (λ c. map (before (c .0)) (chainIn n (moreRules m) noMore (c .1))) (map last (noMore (Another q))))
+      go later (got c j) e f w = bounded-more (c .0) i j f (chainIn n (moreRules m) noMore (c .1) s j) (later (c .1) j (e .1))
       go later none e f w = tt
       go later (refused k p) e f w = w
   bounded (suc n) Finished i h = finished n i h
 
   -- the rules of a text
-  rules-bounded : (p : ℕ) → p ≤ length s → Bounded (length s) p (rules s p)
+  rules-bounded : (p : ℕ) → p ≤ length s → Bounded (length s) p (rules m s p)
   unfolding rules chain
   rules-bounded p h = bounded (suc (length s)) (Another 0) p h
 
   -- the records of a text are at most its bytes
-  pub records-few : (p : ℕ) {l : List Rule × Unit {0}} {j : ℕ} → p ≤ length s → rules s p ≡ got l j → p + length (records (l .0)) ≤ length s
+  pub records-few : (p : ℕ) {l : List Rule × Unit {0}} {j : ℕ} → p ≤ length s → rules m s p ≡ got l j → p + length (records (l .0)) ≤ length s
   records-few p {l} h e = subst (Bounded (length s) p) e (rules-bounded p h)
 
 -- ---- answers
@@ -101,9 +105,9 @@ refusal-small : (number place : ℕ) → place ≤ 4096 → Small (refusal numbe
 refusal-small number place h = record { place = h; records = omega arith; warnings = omega arith }
 
 -- a text's
-pub text-small : (s : List ℕ) (p n : ℕ) → length s ≤ 4096 → p ≤ length s → Small (textOf s p n .0)
+pub text-small : (m : Manner) (s : List ℕ) (p n : ℕ) → length s ≤ 4096 → p ≤ length s → Small (textOf m s p n .0)
 unfolding textOf
-text-small s p n small h = go (rules s p) (rules-bounded s p h)
+text-small m s p n small h = go (rules m s p) (rules-bounded m s p h)
   where
     full : (l : List (List ℤ)) → length l ≤ 4096 → (b : Bool) → Small ((if b then refusal 10 p else (answerOf 0 0 (length l) (warningsOf (drop p s)), l)) .0)
     full l k true = refusal-small 10 p (omega arith)
@@ -115,17 +119,26 @@ text-small s p n small h = go (rules s p) (rules-bounded s p h)
     go (refused k q) b = refusal-small k q (omega arith)
 
 -- a sheet's
-pub sheet-small : (s : List ℕ) (n : ℕ) → Small (sheetOf s n .0)
-unfolding sheetOf
-sheet-small s n = go (decLt 4096 (length s))
+pub sheet-small : (m : Manner) (s : List ℕ) (n : ℕ) → Small (sheetBy m s n .0)
+unfolding sheetBy
+sheet-small m s n = go (decLt 4096 (length s))
   where
-    go : Dec (4096 < length s) → Small ((if ltb 4096 (length s) then refusal 1 0 else textOf s 0 n) .0)
+    go : Dec (4096 < length s) → Small ((if ltb 4096 (length s) then refusal 1 0 else textOf m s 0 n) .0)
     go (yes h) = rw (lt-ltb 4096 (length s) h) (refusal-small 1 0 (omega arith))
-    go (no h) = let k : length s ≤ 4096 = omega arith in rw (le-ltb 4096 (length s) k) (text-small s 0 n k (omega arith))
+    go (no h) = let k : length s ≤ 4096 = omega arith in rw (le-ltb 4096 (length s) k) (text-small m s 0 n k (omega arith))
 
-pub sheet-bytes-small : (s t : List ℕ) → Small (sheetReadingBytes s t .0)
-unfolding sheetReadingBytes
-sheet-bytes-small s t = sheet-small s (wordsIn (length t))
+pub sheet-bytes-small : (m : Manner) (s t : List ℕ) → Small (sheetReadingBytesBy m s t .0)
+unfolding sheetReadingBytesBy
+sheet-bytes-small m s t = sheet-small m s (wordsIn (length t))
+
+-- in an edition, or where it is not known
+pub sheet-in-small : (edition : ℕ) (s t : List ℕ) → Small (sheetReadingBytesIn edition s t .0)
+unfolding sheetReadingBytesIn
+sheet-in-small edition s t = go (editionOf edition)
+  where
+    go : (e : Edition) → Small (inEdition e (λ m. sheetReadingBytesBy m s t) (refusal 19 0 .0, t) .0)
+    go (Known m) = sheet-bytes-small m s t
+    go Unknown = refusal-small 19 0 (omega arith)
 
 -- ---- parts
 
@@ -143,24 +156,34 @@ next-small s e a small h = go (decLt e (length s))
     go (yes k) = rw (lt-ltb e (length s) k) (record { same = h; next = omega arith })
     go (no k) = let l : length s ≤ e = omega arith in rw (le-ltb e (length s) l) (record { same = h; next = omega arith })
 
-part-small : (s : List ℕ) (p n : ℕ) → SmallPart (partOf s p n .0)
-unfolding partOf partEnd
-part-small s p n = go (decLt 4096 (length s)) (begins s p) refl
-  where
-    refused-small : (number : ℕ) → SmallPart (partRefusal number .0)
-    refused-small number = record { same = refusal-small number 0 (omega arith); next = omega arith }
+-- a refusal's
+refused-small : (number : ℕ) → SmallPart (partRefusal number .0)
+refused-small number = record { same = refusal-small number 0 (omega arith); next = omega arith }
 
-    text : length s ≤ 4096 → begins s p ≡ true → SmallPart (partTo s p n (partEnd s p) .0)
+part-small : (m : Manner) (s : List ℕ) (p n : ℕ) → SmallPart (partBy m s p n .0)
+unfolding partBy partEnd
+part-small m s p n = go (decLt 4096 (length s)) (begins s p) refl
+  where
+    text : length s ≤ 4096 → begins s p ≡ true → SmallPart (partTo m s p n (partEnd s p) .0)
     text k e =
         let f = end-fits s p (begins-fits s p e) in
         let l = length-take-le (partEnd s p) s f in
-        next-small s (partEnd s p) (textOf (take (partEnd s p) s) p n .0) k (text-small (take (partEnd s p) s) p n (omega arith) (omega arith))
+        next-small s (partEnd s p) (textOf m (take (partEnd s p) s) p n .0) k (text-small m (take (partEnd s p) s) p n (omega arith) (omega arith))
 
-    go : Dec (4096 < length s) → (b : Bool) → begins s p ≡ b → SmallPart ((if ltb 4096 (length s) then partRefusal 1 else if not b then partRefusal 2 else partTo s p n (partEnd s p)) .0)
+    go : Dec (4096 < length s) → (b : Bool) → begins s p ≡ b → SmallPart ((if ltb 4096 (length s) then partRefusal 1 else if not b then partRefusal 2 else partTo m s p n (partEnd s p)) .0)
     go (yes h) b e = rw (lt-ltb 4096 (length s) h) (refused-small 1)
     go (no h) true e = let k : length s ≤ 4096 = omega arith in rw (le-ltb 4096 (length s) k) (text k e)
     go (no h) false e = let k : length s ≤ 4096 = omega arith in rw (le-ltb 4096 (length s) k) (refused-small 2)
 
-pub part-bytes-small : (s : List ℕ) (p : ℕ) (t : List ℕ) → SmallPart (partReadingBytes s p t .0)
-unfolding partReadingBytes
-part-bytes-small s p t = part-small s p (wordsIn (length t))
+pub part-bytes-small : (m : Manner) (s : List ℕ) (p : ℕ) (t : List ℕ) → SmallPart (partReadingBytesBy m s p t .0)
+unfolding partReadingBytesBy
+part-bytes-small m s p t = part-small m s p (wordsIn (length t))
+
+-- in an edition, or where it is not known
+pub part-in-small : (edition : ℕ) (s : List ℕ) (p : ℕ) (t : List ℕ) → SmallPart (partReadingBytesIn edition s p t .0)
+unfolding partReadingBytesIn
+part-in-small edition s p t = go (editionOf edition)
+  where
+    go : (e : Edition) → SmallPart (inEdition e (λ m. partReadingBytesBy m s p t) (partRefusal 19 .0, t) .0)
+    go (Known m) = part-bytes-small m s p t
+    go Unknown = refused-small 19

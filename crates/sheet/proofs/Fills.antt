@@ -7,6 +7,7 @@ use mathlib.Core.Path.{_≡_, refl, sym, ap, _∙_, subst, fun-ext}
 use native.Mathlib.Omega.{arith}
 use native.Mathlib.Nat.{zero-add, add-zero}
 use lib.ListN.{length}
+use Rattle.names.specs.declared.Manner.{Manner}
 use Rattle.names.specs.Read.{Read, got, none, refused, Reader, follow, nothing, pure, map}
 use Rattle.names.specs.Chain.{chain}
 use Rattle.names.proofs.Local.{past-one}
@@ -40,18 +41,18 @@ unfolding headWords
 head-sixteen h = refl
 
 -- a rule whose opening is refused
-pub opening-refused : (separator slot : ℕ) (s : List ℕ) (t : Tables) (i : ℕ) {k p : ℕ} → opening s i ≡ refused k p → ruleInto t slot separator s i ≡ refused k p
+pub opening-refused : (m : Manner) (separator slot : ℕ) (s : List ℕ) (t : Tables) (i : ℕ) {k p : ℕ} → opening s i ≡ refused k p → ruleInto m t slot separator s i ≡ refused k p
 unfolding rule
-opening-refused separator slot s t i e = rw e
+opening-refused m separator slot s t i e = rw e
 
-module _ (place separator : ℕ) (wide : Comment) (slot : ℕ) where
+module _ (m : Manner) (place separator : ℕ) (wide : Comment) (slot : ℕ) where
   -- of pieces behind n items: the rule's head, and tables with these items behind those
   abbrev filled : Tables → ℕ → List Placed × Tail → Head × Tables
   filled t n r = (headOf place separator (r .1) wide (n + length (r .0)), allKept t (slot + suc n) (list.map itemRecord (r .0)))
 
   -- what is left of a rule from a stage on
   abbrev pub left : Tables → ℕ → Stage → Reader (Head × Tables)
-  left t n x = map (filled t n) (chain more end x)
+  left t n x = map (filled t n) (chain (more m) end x)
 
   -- with the head in its slot
   abbrev pub headed : Head × Tables → Head × Tables
@@ -59,13 +60,13 @@ module _ (place separator : ℕ) (wide : Comment) (slot : ℕ) where
 
   module _ (s : List ℕ) (t : Tables) where
     -- behind the opening: no item yet
-    left-opening : {o : Opening} {j : ℕ} → opening s place ≡ got o j → wide ≡ o .comment → ruleInto t slot separator s place ≡ map headed (left t 0 (o .stage)) s j
+    left-opening : {o : Opening} {j : ℕ} → opening s place ≡ got o j → wide ≡ o .comment → ruleInto m t slot separator s place ≡ map headed (left t 0 (o .stage)) s j
     unfolding rule behind
     left-opening {o} {j} e w =
         rw (e, ← w)
-        (map-map (ruleOf place separator wide) (λ r. (r .0, allKept t slot (ruleRecords r))) s place j (chain more end (o .stage) s j)
-        ∙ map-same _ (λ r. headed (filled t 0 r)) (chain more end (o .stage)) s j same
-        ∙ sym (map-map (filled t 0) headed s j j (chain more end (o .stage) s j)))
+        (map-map (ruleOf place separator wide) (λ r. (r .0, allKept t slot (ruleRecords r))) s place j (chain (more m) end (o .stage) s j)
+        ∙ map-same _ (λ r. headed (filled t 0 r)) (chain (more m) end (o .stage)) s j same
+        ∙ sym (map-map (filled t 0) headed s j j (chain (more m) end (o .stage) s j)))
       where
         same : (r : List Placed × Tail) → (ruleOf place separator wide r .0, allKept t slot (ruleRecords (ruleOf place separator wide r))) ≡ headed (filled t 0 r)
         same r =
@@ -76,78 +77,78 @@ module _ (place separator : ℕ) (wide : Comment) (slot : ℕ) where
 
     module _ (n : ℕ) (x : Stage) (i : ℕ) where
       -- an item more
-      left-more : {a : Placed} {y : Stage} {j : ℕ} → more x s i ≡ got (a, y) j → left t n x s i ≡ left (keptIn t (slot + (n + 1)) (itemRecord a)) (n + 1) y s j
+      left-more : {a : Placed} {y : Stage} {j : ℕ} → more m x s i ≡ got (a, y) j → left t n x s i ≡ left (keptIn t (slot + (n + 1)) (itemRecord a)) (n + 1) y s j
       unfolding allKept
       left-more {a} {y} {j} e =
           let p : slot + suc n ≡ slot + (n + 1) = omega arith in
           let q : suc (slot + (n + 1)) ≡ slot + suc (n + 1) = omega arith in
-          piece-more (filled t n) x s i e
-          ∙ map-same _ (filled (keptIn t (slot + (n + 1)) (itemRecord a)) (n + 1)) (chain more end y) s j (λ r.
+          piece-more m (filled t n) x s i e
+          ∙ map-same _ (filled (keptIn t (slot + (n + 1)) (itemRecord a)) (n + 1)) (chain (more m) end y) s j (λ r.
           let rs = list.map itemRecord (r .0) in
-          let m : n + suc (length (r .0)) ≡ n + 1 + length (r .0) = omega arith in
-          ap (λ (k : ℕ). (headOf place separator (r .1) wide k, allKept t (slot + suc n) (itemRecord a ∷ rs))) m
+          let q₂ : n + suc (length (r .0)) ≡ n + 1 + length (r .0) = omega arith in
+          ap (λ (k : ℕ). (headOf place separator (r .1) wide k, allKept t (slot + suc n) (itemRecord a ∷ rs))) q₂
           ∙ ap (λ (k : ℕ). (headOf place separator (r .1) wide (n + 1 + length (r .0)), allKept t k (itemRecord a ∷ rs))) p
           ∙ ap (λ (k : ℕ). (headOf place separator (r .1) wide (n + 1 + length (r .0)), allKept (keptIn t (slot + (n + 1)) (itemRecord a)) k rs)) q)
 
       -- a refusal
-      pub left-refused : {k p : ℕ} → piece x s i ≡ refused k p → left t n x s i ≡ refused k p
-      left-refused e = piece-refusal x s i (filled t n) e
+      pub left-refused : {k p : ℕ} → piece m x s i ≡ refused k p → left t n x s i ≡ refused k p
+      left-refused e = piece-refusal m x s i (filled t n) e
 
       -- the end
-      pub left-end : {b : Tail} {j : ℕ} → piece x s i ≡ got (inr b) j → left t n x s i ≡ got (headOf place separator b wide n, t) j
+      pub left-end : {b : Tail} {j : ℕ} → piece m x s i ≡ got (inr b) j → left t n x s i ≡ got (headOf place separator b wide n, t) j
       unfolding allKept
-      left-end {b} e = piece-end (filled t n) x s i (piece-none x s i e) ∙ rw (piece-tail x s i e, add-zero n)
+      left-end {b} e = piece-end m (filled t n) x s i (piece-none m x s i e) ∙ rw (piece-tail m x s i e, add-zero n)
 
 -- ---- a turn
 
 -- from tables t, a stage y and a place j: n items are kept, which made the table, and the stage x at the place i is what is left
-pub record Turn (place separator : ℕ) (wide : Comment) (slot : ℕ) (s : List ℕ) (t : Tables) (y : Stage) (j : ℕ) (table : Tables) (n : ℕ) (x : Stage) (i : ℕ) : Type 0 where
+pub record Turn (m : Manner) (place separator : ℕ) (wide : Comment) (slot : ℕ) (s : List ℕ) (t : Tables) (y : Stage) (j : ℕ) (table : Tables) (n : ℕ) (x : Stage) (i : ℕ) : Type 0 where
   pub low : n ≤ i
   pub few : n ≤ length s
   pub words : length (table .0) ≡ length (t .0)
   pub bytes : length (table .1) ≡ length (t .1)
-  pub reads : left place separator wide slot table n x s i ≡ left place separator wide slot t 0 y s j
+  pub reads : left m place separator wide slot table n x s i ≡ left m place separator wide slot t 0 y s j
 
-module _ (place separator : ℕ) (wide : Comment) (slot : ℕ) (s : List ℕ) (t : Tables) (y : Stage) (j : ℕ) where
+module _ (m : Manner) (place separator : ℕ) (wide : Comment) (slot : ℕ) (s : List ℕ) (t : Tables) (y : Stage) (j : ℕ) where
   -- no item yet
-  pub turn-begin : Turn place separator wide slot s t y j t 0 y j
+  pub turn-begin : Turn m place separator wide slot s t y j t 0 y j
   turn-begin = record { low = omega arith; few = omega arith; words = refl; bytes = refl; reads = refl }
 
   -- an item more
-  pub turn-more : (table : Tables) (n : ℕ) (x : Stage) (i : ℕ) {a : Placed} {x₂ : Stage} {k : ℕ} → Turn place separator wide slot s t y j table n x i → more x s i ≡ got (a, x₂) k →
-      Turn place separator wide slot s t y j (keptIn table (slot + (n + 1)) (itemRecord a)) (n + 1) x₂ k
+  pub turn-more : (table : Tables) (n : ℕ) (x : Stage) (i : ℕ) {a : Placed} {x₂ : Stage} {k : ℕ} → Turn m place separator wide slot s t y j table n x i → more m x s i ≡ got (a, x₂) k →
+      Turn m place separator wide slot s t y j (keptIn table (slot + (n + 1)) (itemRecord a)) (n + 1) x₂ k
   turn-more table n x i {a} z e =
-      let p = past-one (more-local x) e in
+      let p = past-one (more-local m x) e in
       record {
         low = omega (arith, z .low, p);
         few = omega (arith, z .low, p);
         words = length-kept asWords (table .0) (slot + (n + 1)) (itemRecord a) ∙ z .words;
         bytes = length-kept asBytes (table .1) (slot + (n + 1)) (itemRecord a) ∙ z .bytes;
-        reads = sym (left-more place separator wide slot s table n x i e) ∙ z .reads;
+        reads = sym (left-more m place separator wide slot s table n x i e) ∙ z .reads;
       }
 
   -- the rule, from what is left
-  pub turn-whole : {o : Opening} (table : Tables) (n : ℕ) (x : Stage) (i : ℕ) {r : Read (Head × Tables)} → opening s place ≡ got o j → wide ≡ o .comment → y ≡ o .stage → Turn place separator wide slot s t y j table n x i →
-      left place separator wide slot table n x s i ≡ r → ruleInto t slot separator s place ≡ follow s j r (λ h. pure (headed place separator wide slot h)) nothing
-  turn-whole table n x i e w q z f = left-opening place separator wide slot s t e w ∙ rw (← q, ← z .reads, f)
+  pub turn-whole : {o : Opening} (table : Tables) (n : ℕ) (x : Stage) (i : ℕ) {r : Read (Head × Tables)} → opening s place ≡ got o j → wide ≡ o .comment → y ≡ o .stage → Turn m place separator wide slot s t y j table n x i →
+      left m place separator wide slot table n x s i ≡ r → ruleInto m t slot separator s place ≡ follow s j r (λ h. pure (headed m place separator wide slot h)) nothing
+  turn-whole table n x i e w q z f = left-opening m place separator wide slot s t e w ∙ rw (← q, ← z .reads, f)
 
 -- ---- a head's numbers
 
 -- the head's comment stands in its text
-pub head-small : (place separator : ℕ) (wide : Comment) (b : Tail) (s : List ℕ) (n i k : ℕ) (x : Stage) → Small (length s) wide → piece x s i ≡ got (inr b) k → Small (length s) (headOf place separator b wide n .comment)
-head-small place separator wide b s n i k x w e = wins-small (length s) (b .comment) wide (subst (Found (SmallEnd (length s))) (piece-tail x s i e) (end-small s x i)) w
+pub head-small : (m : Manner) (place separator : ℕ) (wide : Comment) (b : Tail) (s : List ℕ) (n i k : ℕ) (x : Stage) → Small (length s) wide → piece m x s i ≡ got (inr b) k → Small (length s) (headOf place separator b wide n .comment)
+head-small m place separator wide b s n i k x w e = wins-small (length s) (b .comment) wide (subst (Found (SmallEnd (length s))) (piece-tail m x s i e) (end-small s x i)) w
 
 -- and the rule begins in it
-pub head-placed : (t : Tables) (slot separator : ℕ) (s : List ℕ) (i : ℕ) {x : Head × Tables} {k : ℕ} → ruleInto t slot separator s i ≡ got x k → i ≤ length s
-head-placed t slot separator s i {x} {k} e = go (rule separator s i) refl e
+pub head-placed : (m : Manner) (t : Tables) (slot separator : ℕ) (s : List ℕ) (i : ℕ) {x : Head × Tables} {k : ℕ} → ruleInto m t slot separator s i ≡ got x k → i ≤ length s
+head-placed m t slot separator s i {x} {k} e = go (rule m separator s i) refl e
   where
-    go : (r : Read Rule) → rule separator s i ≡ r → follow s i r (λ y. pure (y .0, allKept t slot (ruleRecords y))) nothing ≡ got x k → i ≤ length s
-    go (got y j) h e = let p = past-one (rule-local separator) h in omega (arith, p)
+    go : (r : Read Rule) → rule m separator s i ≡ r → follow s i r (λ y. pure (y .0, allKept t slot (ruleRecords y))) nothing ≡ got x k → i ≤ length s
+    go (got y j) h e = let p = past-one (rule-local m separator) h in omega (arith, p)
     go none h e = absurd (let z : _≡_ {A = ℕ} 0 1 = cc in omega arith)
     go (refused n p) h e = absurd (let z : _≡_ {A = ℕ} 0 1 = cc in omega arith)
 
 -- an item's place is a place of its text
-pub item-placed : (x : Stage) (s : List ℕ) (i : ℕ) {a : Placed} {y : Stage} {j : ℕ} → more x s i ≡ got (a, y) j → a .1 ≤ length s
-item-placed x s i {a} {y} e =
-    let h = subst (Upto (λ (b : Placed × Stage) k. (i ≤ b .0 .1) × (b .0 .1 < k))) e (more-inside s x i) in
-    omega (arith, h .1, past-one (more-local x) e .1)
+pub item-placed : (m : Manner) (x : Stage) (s : List ℕ) (i : ℕ) {a : Placed} {y : Stage} {j : ℕ} → more m x s i ≡ got (a, y) j → a .1 ≤ length s
+item-placed m x s i {a} {y} e =
+    let h = subst (Upto (λ (b : Placed × Stage) k. (i ≤ b .0 .1) × (b .0 .1 < k))) e (more-inside m s x i) in
+    omega (arith, h .1, past-one (more-local m x) e .1)

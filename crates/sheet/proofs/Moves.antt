@@ -5,6 +5,7 @@ use mathlib.Core.Bool.{Bool, false}
 use mathlib.Core.Path.{_≡_, refl, ap, _∙_}
 use native.Mathlib.Omega.{arith}
 use lib.ListN.{length}
+use Rattle.names.specs.declared.Manner.{Manner}
 use Rattle.names.specs.Read.{Read, got, none, refused, Reader, branch, nothing, pure, map}
 use Rattle.names.specs.Chain.{before, last, chain}
 use Rattle.names.specs.Texts.{blanks}
@@ -26,17 +27,17 @@ pub must-next : {u : List ℕ} → Local Ended keep u false false 0 (must next) 
 must-next = or-local next-ended (narrow missing-local)
 
 -- a rule and what parts it from the next
-parted-ended : {u : List ℕ} (separator : ℕ) → Local Ended (step-moves ruleMoves) u false false 1 (parted separator) (parted separator)
+parted-ended : (m : Manner) {u : List ℕ} (separator : ℕ) → Local Ended (step-moves ruleMoves) u false false 1 (parted m separator) (parted m separator)
 unfolding parted
-parted-ended separator =
+parted-ended m separator =
     let f : Rule → Reader (Rule × Next) = λ r. branch blanks (λ _. branch (must next) (λ n. pure (r, n)) nothing) nothing in
-    then-moved f f (narrow (rule-local separator)) (λ r. then-local (narrow blanks-local) (λ _. then-local must-next (λ n. pure-local (r, n))))
+    then-moved f f (narrow (rule-local m separator)) (λ r. then-local (narrow blanks-local) (λ _. then-local must-next (λ n. pure-local (r, n))))
 
 -- a rule of a text
-pub moreRules-ended : {u : List ℕ} (x : Next) → Local Ended (step-moves ruleMoves) u false false 1 (moreRules x) (moreRules x)
+pub moreRules-ended : (m : Manner) {u : List ℕ} (x : Next) → Local Ended (step-moves ruleMoves) u false false 1 (moreRules m x) (moreRules m x)
 unfolding moreRules
-moreRules-ended (Another separator) = loose (bind-local (narrow blanks-local) (λ _. parted-ended separator)) (omega arith)
-moreRules-ended Finished = nothing-local
+moreRules-ended m (Another separator) = loose (bind-local (narrow blanks-local) (λ _. parted-ended m separator)) (omega arith)
+moreRules-ended m Finished = nothing-local
 
 -- the end of a text's rules
 noMore-ended : {u : List ℕ} (x : Next) → Local Ended keep u false false 0 (noMore x) (noMore x)
@@ -49,18 +50,18 @@ abbrev pub rulesMove : ℕ → List Rule × Unit {0} → List Rule × Unit {0}
 rulesMove = chain-moves ruleMoves keep
 
 -- the rules of a text
-pub rules-ended : (u : List ℕ) → Local Ended rulesMove u false false 0 rules rules
+pub rules-ended : (m : Manner) (u : List ℕ) → Local Ended rulesMove u false false 0 (rules m) (rules m)
 unfolding rules
-rules-ended u = chain-local ruleMoves {u = u} moreRules-ended noMore-ended (Another 0)
+rules-ended m u = chain-local ruleMoves {u = u} (moreRules-ended m) noMore-ended (Another 0)
 
 -- the move law
-pub rules-move : (u s : List ℕ) (i : ℕ) → rules (u ++ s) (length u + i) ≡ moved rulesMove (length u) (rules s i)
-rules-move u s i = rw append-nil at (rules-ended u .same s [] i stop-end tt)
+pub rules-move : (m : Manner) (u s : List ℕ) (i : ℕ) → rules m (u ++ s) (length u + i) ≡ moved rulesMove (length u) (rules m s i)
+rules-move m u s i = rw append-nil at (rules-ended m u .same s [] i stop-end tt)
 
 -- each rule takes a byte of the text
-pub takes : (x : Next) (s : List ℕ) (i : ℕ) → Ends (λ j. (i < j) × (j ≤ length s)) (moreRules x s i)
-takes x = ends-later (moreRules-ended {u = []} x)
+pub takes : (m : Manner) (x : Next) (s : List ℕ) (i : ℕ) → Ends (λ j. (i < j) × (j ≤ length s)) (moreRules m x s i)
+takes m x = ends-later (moreRules-ended m {u = []} x)
 
 -- the rules of a text are a rule and those from there, or the end
-pub rules-are : (x : Next) (s : List ℕ) (i : ℕ) → chain moreRules noMore x s i ≡ branch (moreRules x) (λ c. map (before (c .0)) (chain moreRules noMore (c .1))) (map last (noMore x)) s i
-rules-are = chain-is moreRules noMore takes
+pub rules-are : (m : Manner) (x : Next) (s : List ℕ) (i : ℕ) → chain (moreRules m) noMore x s i ≡ branch (moreRules m x) (λ c. map (before (c .0)) (chain (moreRules m) noMore (c .1))) (map last (noMore x)) s i
+rules-are m = chain-is (moreRules m) noMore (takes m)

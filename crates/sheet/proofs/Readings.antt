@@ -10,6 +10,7 @@ use lib.Dec.{ltb}
 use lib.IntN.{ℤ, pos}
 use lib.ListN.{length, take, drop, length-set}
 use borrow.Author.Tests.{lt-ltb, le-ltb, ltb-false}
+use Rattle.names.specs.declared.Manner.{Manner}
 use Rattle.names.specs.Tests.{if_then_else_}
 use Rattle.names.specs.Read.{Read, got, none, refused, follow, nothing, pure}
 use Rattle.records.specs.Tables.{Layout, asWords, asBytes, kept, Tables, keptIn, allKept, recordsIn}
@@ -22,9 +23,9 @@ use Rattle.sheet.specs.Heads.{itemRecord}
 use Rattle.sheet.specs.Texts.{rules, ruleRecords, records}
 use Rattle.sheet.specs.Warnings.{warningsOf}
 use Rattle.sheet.specs.Into.{rulesInto, into}
-use Rattle.sheet.specs.Sheets.{answerOf, refusal, judgedText, textOf, writtenAs, sheetOf, wordsIn}
+use Rattle.sheet.specs.Sheets.{answerOf, refusal, judgedText, textOf, writtenAs, sheetBy, wordsIn}
 use Rattle.sheet.specs.Parts.{begins, partEnd}
-use Rattle.sheet.specs.PartReadings.{withNext, partRefusal, partOf}
+use Rattle.sheet.specs.PartReadings.{withNext, partRefusal, partBy}
 use Rattle.sheet.specs.Seen.{seenRulesInto}
 use Rattle.sheet.specs.declared.Answer.{Answer}
 use Rattle.sheet.specs.declared.PartAnswer.{PartAnswer}
@@ -56,9 +57,9 @@ held-none : (n : ℕ) → Held n 0 []
 held-none n = record { many = refl; long = tt; room = omega arith }
 
 -- those of a text
-text-held : (s : List ℕ) (p n : ℕ) → Held n (textOf s p n .0 .records) (textOf s p n .1)
+text-held : (m : Manner) (s : List ℕ) (p n : ℕ) → Held n (textOf m s p n .0 .records) (textOf m s p n .1)
 unfolding textOf
-text-held s p n = go (rules s p)
+text-held m s p n = go (rules m s p)
   where
     all : (l : List Rule) (full : Bool) → ltb (n / 16) (length (records l)) ≡ full →
         Held n ((if full then refusal 10 p else (answerOf 0 0 (length (records l)) (warningsOf (drop p s)), records l)) .0 .records) ((if full then refusal 10 p else (answerOf 0 0 (length (records l)) (warningsOf (drop p s)), records l)) .1)
@@ -76,38 +77,38 @@ either P true h k = h
 either P false h k = k
 
 -- of a part
-pub part-held : (s : List ℕ) (p n : ℕ) → Held n (partOf s p n .0 .records) (partOf s p n .1)
-unfolding partOf withNext
-part-held s p n =
+pub part-held : (m : Manner) (s : List ℕ) (p n : ℕ) → Held n (partBy m s p n .0 .records) (partBy m s p n .1)
+unfolding partBy withNext
+part-held m s p n =
     let P : PartAnswer × List (List ℤ) → Type 0 = λ r. Held n (r .0 .records) (r .1) in
     let u = take (partEnd s p) s in
-    let h = text-held u p n in
-    either P (ltb 4096 (length s)) (held-none n) (either P (not (begins s p)) (held-none n) (either (λ (a : PartAnswer). Held n (a .records) (textOf u p n .1)) (ltb (partEnd s p) (length s)) h h))
+    let h = text-held m u p n in
+    either P (ltb 4096 (length s)) (held-none n) (either P (not (begins s p)) (held-none n) (either (λ (a : PartAnswer). Held n (a .records) (textOf m u p n .1)) (ltb (partEnd s p) (length s)) h h))
 
 -- and of a sheet
-pub sheet-held : (s : List ℕ) (n : ℕ) → Held n (sheetOf s n .0 .records) (sheetOf s n .1)
-unfolding sheetOf
-sheet-held s n = either (λ (r : Answer × List (List ℤ)). Held n (r .0 .records) (r .1)) (ltb 4096 (length s)) (held-none n) (text-held s 0 n)
+pub sheet-held : (m : Manner) (s : List ℕ) (n : ℕ) → Held n (sheetBy m s n .0 .records) (sheetBy m s n .1)
+unfolding sheetBy
+sheet-held m s n = either (λ (r : Answer × List (List ℤ)). Held n (r .0 .records) (r .1)) (ltb 4096 (length s)) (held-none n) (text-held m s 0 n)
 
 -- ---- rules that were counted and kept
 
 -- the rules of a text are read: they have n records, and tables t with these are t′
-pub record Kept (t t′ : Tables) (s : List ℕ) (p n : ℕ) : Type 0 where
+pub record Kept (m : Manner) (t t′ : Tables) (s : List ℕ) (p n : ℕ) : Type 0 where
   pub list : List Rule
   pub end : ℕ
-  pub is : rules s p ≡ got (list, tt) end
+  pub is : rules m s p ≡ got (list, tt) end
   pub many : n ≡ length (records list)
   pub all : t′ ≡ allKept t 0 (records list)
 
-module _ (s : List ℕ) (p : ℕ) where
+module _ (m : Manner) (s : List ℕ) (p : ℕ) where
   abbrev Rules : Type 0
   Rules = Read (List Rule × Unit {0})
 
   -- counted, and not refused
-  pub kept-is : (t t′ : Tables) {n j : ℕ} → rulesInto t s p ≡ got (n, t′) j → Kept t t′ s p n
-  kept-is t t′ {n} {j} = go (rules s p) refl
+  pub kept-is : (t t′ : Tables) {n j : ℕ} → rulesInto m t s p ≡ got (n, t′) j → Kept m t t′ s p n
+  kept-is t t′ {n} {j} = go (rules m s p) refl
     where
-      go : (x : Rules) → rules s p ≡ x → follow {B = ℕ × Tables} s p x (λ l. pure (length (records (l .0)), allKept t 0 (records (l .0)))) nothing ≡ got (n, t′) j → Kept t t′ s p n
+      go : (x : Rules) → rules m s p ≡ x → follow {B = ℕ × Tables} s p x (λ l. pure (length (records (l .0)), allKept t 0 (records (l .0)))) nothing ≡ got (n, t′) j → Kept m t t′ s p n
       go (got l k) e f =
           let v : _≡_ {A = ℕ × Tables} (length (records (l .0)), allKept t 0 (records (l .0))) (n, t′) = cc in
           record { list = l .0; end = k; is = e; many = sym (ap (λ (y : ℕ × Tables). y .0) v); all = sym (ap (λ (y : ℕ × Tables). y .1) v) }
@@ -115,23 +116,23 @@ module _ (s : List ℕ) (p : ℕ) where
       go (refused k q) e f = let z : _≡_ {A = ℕ} 0 1 = cc in absurd (omega arith)
 
   -- a refusal
-  pub text-refused : (t u : Tables) (m : ℕ) {k q : ℕ} → rulesInto t s p ≡ refused k q → (refusal k q .0, u) ≡ into u (textOf s p m)
+  pub text-refused : (t u : Tables) (size : ℕ) {k q : ℕ} → rulesInto m t s p ≡ refused k q → (refusal k q .0, u) ≡ into u (textOf m s p size)
   unfolding textOf allKept
-  text-refused t u m {k} {q} = go (rules s p)
+  text-refused t u size {k} {q} = go (rules m s p)
     where
-      go : (x : Rules) → follow {B = ℕ × Tables} s p x (λ l. pure (length (records (l .0)), allKept t 0 (records (l .0)))) nothing ≡ refused k q → (refusal k q .0, u) ≡ into u (judgedText s p m x)
+      go : (x : Rules) → follow {B = ℕ × Tables} s p x (λ l. pure (length (records (l .0)), allKept t 0 (records (l .0)))) nothing ≡ refused k q → (refusal k q .0, u) ≡ into u (judgedText s p size x)
       go (got l j) e = cc
       go none e = cc
       go (refused a b) e = let f : a ≡ k = cc in let g : b ≡ q = cc in rw (f, g)
 
-  module _ (t t′ u : Tables) {n : ℕ} (k : Kept t t′ s p n) where
+  module _ (t t′ u : Tables) {n : ℕ} (k : Kept m t t′ s p n) where
     -- read again into other tables
-    pub again : (r : Counted) {u′ : Tables} → rulesInto u s p ≡ seenRulesInto r u′ → u′ ≡ allKept u 0 (records (k .list))
-    again (Got m c) {u′} e =
-        let v : _≡_ {A = Read (ℕ × Tables)} (got (length (records (k .list)), allKept u 0 (records (k .list))) (k .end)) (got (m, u′) (c .at)) = rw (k .is) at e in
-        let w : _≡_ {A = ℕ × Tables} (length (records (k .list)), allKept u 0 (records (k .list))) (m, u′) = cc in
+    pub again : (r : Counted) {u′ : Tables} → rulesInto m u s p ≡ seenRulesInto r u′ → u′ ≡ allKept u 0 (records (k .list))
+    again (Got o c) {u′} e =
+        let v : _≡_ {A = Read (ℕ × Tables)} (got (length (records (k .list)), allKept u 0 (records (k .list))) (k .end)) (got (o, u′) (c .at)) = rw (k .is) at e in
+        let w : _≡_ {A = ℕ × Tables} (length (records (k .list)), allKept u 0 (records (k .list))) (o, u′) = cc in
         sym (ap (λ (y : ℕ × Tables). y .1) w)
-    again (Refused m q) e = let v : _≡_ {A = Read (ℕ × Tables)} (got (length (records (k .list)), allKept u 0 (records (k .list))) (k .end)) (refused m q) = rw (k .is) at e in cc
+    again (Refused o q) e = let v : _≡_ {A = Read (ℕ × Tables)} (got (length (records (k .list)), allKept u 0 (records (k .list))) (k .end)) (refused o q) = rw (k .is) at e in cc
 
     -- taken out of the table of words, where it had room for all
     pub taken : n * 16 ≤ length (t .0) → recordsIn n (t′ .0) ≡ records (k .list)
@@ -140,20 +141,20 @@ module _ (s : List ℕ) (p : ℕ) where
         let room : length rs * 16 ≤ length (t .0) = rw (k .many) at h in
         rw (k .many, k .all, all-laid asWords (λ x. x .0) (λ _ _ _. refl) rs t 0 (omega arith)) (records-back rs (t .0) (records-sixteen (k .list)) room)
 
-    module _ (m : ℕ) where
-      -- more records than a table of m words has room for
-      pub text-full : m / 16 < n → (refusal 10 p .0, u) ≡ into u (textOf s p m)
+    module _ (size : ℕ) where
+      -- more records than a table of so many words has room for
+      pub text-full : size / 16 < n → (refusal 10 p .0, u) ≡ into u (textOf m s p size)
       unfolding textOf allKept
-      text-full h = let g : m / 16 < length (records (k .list)) = omega (arith, h, k .many) in rw (k .is, lt-ltb _ _ g)
+      text-full h = let g : size / 16 < length (records (k .list)) = omega (arith, h, k .many) in rw (k .is, lt-ltb _ _ g)
 
       -- the text is accepted
-      pub text-accepted : n ≤ m / 16 → (answerOf 0 0 n (warningsOf (drop p s)), allKept u 0 (records (k .list))) ≡ into u (textOf s p m)
+      pub text-accepted : n ≤ size / 16 → (answerOf 0 0 n (warningsOf (drop p s)), allKept u 0 (records (k .list))) ≡ into u (textOf m s p size)
       unfolding textOf
-      text-accepted h = let g : length (records (k .list)) ≤ m / 16 = omega (arith, h, k .many) in rw (k .is, le-ltb _ _ g, k .many)
+      text-accepted h = let g : length (records (k .list)) ≤ size / 16 = omega (arith, h, k .many) in rw (k .is, le-ltb _ _ g, k .many)
 
 -- ---- sheets and parts
 
-module _ (u : Tables) where
+module _ (m : Manner) (u : Tables) where
   -- nothing is kept
   into-none : {A : Type 0} (a : A) → (a, u) ≡ into u (a, [])
   unfolding allKept
@@ -161,29 +162,29 @@ module _ (u : Tables) where
 
   module _ (s : List ℕ) (n : ℕ) where
     -- a sheet of over 4,096 bytes is not read
-    pub sheet-long : 4096 < length s → (refusal 1 0 .0, u) ≡ into u (sheetOf s n)
-    unfolding sheetOf
+    pub sheet-long : 4096 < length s → (refusal 1 0 .0, u) ≡ into u (sheetBy m s n)
+    unfolding sheetBy
     sheet-long h = rw (lt-ltb 4096 (length s) h) (into-none (refusal 1 0 .0))
 
     -- another is a text from its first byte on
-    pub sheet-text : length s ≤ 4096 → into u (textOf s 0 n) ≡ into u (sheetOf s n)
-    unfolding sheetOf
+    pub sheet-text : length s ≤ 4096 → into u (textOf m s 0 n) ≡ into u (sheetBy m s n)
+    unfolding sheetBy
     sheet-text h = rw (le-ltb 4096 (length s) h)
 
   module _ (s : List ℕ) (p n : ℕ) where
     -- in a sheet of over 4,096 bytes no part is read
-    pub part-long : 4096 < length s → (partRefusal 1 .0, u) ≡ into u (partOf s p n)
-    unfolding partOf
+    pub part-long : 4096 < length s → (partRefusal 1 .0, u) ≡ into u (partBy m s p n)
+    unfolding partBy
     part-long h = rw (lt-ltb 4096 (length s) h) (into-none (partRefusal 1 .0))
 
     -- nor where none begins
-    pub part-nowhere : length s ≤ 4096 → begins s p ≡ false → (partRefusal 2 .0, u) ≡ into u (partOf s p n)
-    unfolding partOf
+    pub part-nowhere : length s ≤ 4096 → begins s p ≡ false → (partRefusal 2 .0, u) ≡ into u (partBy m s p n)
+    unfolding partBy
     part-nowhere h e = rw (le-ltb 4096 (length s) h, e) (into-none (partRefusal 2 .0))
 
     -- a part is the text up to its end, from its beginning on
-    pub part-text : {a : Answer} {u′ : Tables} → length s ≤ 4096 → begins s p ≡ true → (a, u′) ≡ into u (textOf (take (partEnd s p) s) p n) → (withNext s (partEnd s p) a, u′) ≡ into u (partOf s p n)
-    unfolding partOf
+    pub part-text : {a : Answer} {u′ : Tables} → length s ≤ 4096 → begins s p ≡ true → (a, u′) ≡ into u (textOf m (take (partEnd s p) s) p n) → (withNext s (partEnd s p) a, u′) ≡ into u (partBy m s p n)
+    unfolding partBy
     part-text h e f = ap (λ (r : Answer × Tables). (withNext s (partEnd s p) (r .0), r .1)) f ∙ rw (le-ltb 4096 (length s) h, e)
 
 -- ---- one of the tables

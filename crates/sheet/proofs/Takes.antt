@@ -7,6 +7,7 @@ use native.Mathlib.Omega.{arith}
 use lib.Dec.{eqb, leb}
 use lib.ListN.{length}
 use borrow.Author.Tests.{leb-true}
+use Rattle.names.specs.declared.Manner.{Manner}
 use Rattle.names.specs.Tests.{within}
 use Rattle.names.specs.Read.{Read, got, none, refused, Reader, follow, nothing, pure, map, _>>=_}
 use Rattle.names.specs.Chain.{before, last, chainIn, chain}
@@ -68,9 +69,9 @@ module _ {u : List ℕ} where
   unfolding name
   name-two k = then-local word-two (λ w. then-local (only-local (eqb (w .0) k)) (λ _. pure-local (w .1)))
 
-  weekday-two : Alike u 2 weekdayItem
+  weekday-two : (m : Manner) → Alike u 2 (weekdayItem m)
   unfolding weekdayItem weekdayShape
-  weekday-two = item-alike (then-local (name-two weekday) weekdayBehind-alike) weekdayMeaning weekday-refuses
+  weekday-two m = item-alike (then-local (name-two weekday) (weekdayBehind-alike m)) weekdayMeaning weekday-refuses
 
   holiday-two : Alike u 2 holidayItem
   unfolding holidayItem holidayShape
@@ -84,9 +85,9 @@ module _ {u : List ℕ} where
   unfolding movedEvent
   event-two = bind-local (byte-local 40 refl refl) (λ _. then-local (name-local event) (λ e. then-local (free (moved-alike e)) (λ t. then-local (free (byte-local 41 refl refl)) (λ _. pure-local t))))
 
-  time-two : Alike u 2 timeItem
+  time-two : (m : Manner) → Alike u 2 (timeItem m)
   unfolding timeItem spanShape rawTime
-  time-two = item-alike (then-local (or-local (then-local clock-two (λ c. pure-local _)) (or-local (then-local (name-two event) (λ e. pure-local _)) event-two)) spanBehind-alike) spanMeaning meaning-refuses
+  time-two m = item-alike (then-local (or-local (then-local clock-two (λ c. pure-local _)) (or-local (then-local (name-two event) (λ e. pure-local _)) event-two)) spanBehind-alike) (spanMeaning m) (meaning-refuses m)
 
   month-day-two : Alike u 2 monthDayItem
   unfolding monthDayItem
@@ -99,47 +100,47 @@ module _ {u : List ℕ} where
   weeks-two = bind-local {l = 1} (name-local week) (λ _. must-local (apart-local (at-local weekItem-alike)))
 
   -- one of several kinds
-  cons-two : (k : Kind) (ks : List Kind) → Local Stop placedMoves u false false 2 (itemOf k) (itemOf k) → Local Stop (step-moves placedMoves) u false false 2 (itemIn ks) (itemIn ks) → Local Stop (step-moves placedMoves) u false false 2 (itemIn (k ∷ ks)) (itemIn (k ∷ ks))
+  cons-two : (m : Manner) (k : Kind) (ks : List Kind) → Local Stop placedMoves u false false 2 (itemOf m k) (itemOf m k) → Local Stop (step-moves placedMoves) u false false 2 (itemIn m ks) (itemIn m ks) → Local Stop (step-moves placedMoves) u false false 2 (itemIn m (k ∷ ks)) (itemIn m (k ∷ ks))
   unfolding itemIn
-  cons-two k ks M N =
+  cons-two m k ks M N =
       let f : Placed → Reader (Placed × Kind) = λ a. pure (a, k) in
       branch-moved {k = 2} {l = 0} f f M (λ a. pure-local (a, k)) N
 
-  first-two : Local Stop (step-moves placedMoves) u false false 2 (itemIn first) (itemIn first)
+  first-two : (m : Manner) → Local Stop (step-moves placedMoves) u false false 2 (itemIn m first) (itemIn m first)
   unfolding itemIn itemOf
-  first-two =
-      cons-two MonthDays (Years ∷ Weeks ∷ small) (at-local month-day-two) (cons-two Years (Weeks ∷ small) (loose (at-local yearItem-alike) (omega arith)) (cons-two Weeks small weeks-two
-      (cons-two Weekdays (Holidays ∷ Times ∷ []) (at-local weekday-two) (cons-two Holidays (Times ∷ []) (at-local holiday-two) (cons-two Times [] (at-local time-two) nothing-local)))))
+  first-two m =
+      cons-two m MonthDays (Years ∷ Weeks ∷ small) (at-local month-day-two) (cons-two m Years (Weeks ∷ small) (loose (at-local yearItem-alike) (omega arith)) (cons-two m Weeks small weeks-two
+      (cons-two m Weekdays (Holidays ∷ Times ∷ []) (at-local (weekday-two m)) (cons-two m Holidays (Times ∷ []) (at-local holiday-two) (cons-two m Times [] (at-local (time-two m)) nothing-local)))))
 
   -- ---- and so does each piece of a rule, with what stands before it
 
-  more-two : (x : Stage) → Local Stop (step-moves placedMoves) u false false 2 (more x) (more x)
+  more-two : (m : Manner) (x : Stage) → Local Stop (step-moves placedMoves) u false false 2 (more m x) (more m x)
   unfolding more goesOn colon colonSign
-  more-two Beginning = map-local (λ a. (a .0, After (a .1))) (λ a. (a .0, After (a .1))) (λ a. refl) first-two
-  more-two Always = nothing-local
-  more-two Colon = must-local (bind-local blank-local (λ _. itemFrom-local small))
-  more-two (After k) =
-      or-local (bind-local comma-local (λ _. must-local (itemFrom-local (listed k))))
-      (or-local (bind-local {k = 1} {l = 1} (loose (bind-local {k = 0} (only-local (isWide k)) (λ _. byte-local 58 refl refl)) (omega arith)) (λ _. afterColon-local)) (bind-local blank-local (λ _. itemFrom-local (following k))))
+  more-two m Beginning = map-local (λ a. (a .0, After (a .1))) (λ a. (a .0, After (a .1))) (λ a. refl) (first-two m)
+  more-two m Always = nothing-local
+  more-two m Colon = must-local (bind-local blank-local (λ _. itemFrom-local m small))
+  more-two m (After k) =
+      or-local (bind-local comma-local (λ _. must-local (itemFrom-local m (listed k))))
+      (or-local (bind-local {k = 1} {l = 1} (loose (bind-local {k = 0} (only-local (isWide k)) (λ _. byte-local 58 refl refl)) (omega arith)) (λ _. afterColon-local m)) (bind-local blank-local (λ _. itemFrom-local m (following k))))
 
 -- ---- a rule takes its records' bytes
 
-module _ (s : List ℕ) where
+module _ (m : Manner) (s : List ℕ) where
   -- items, two bytes each
   abbrev Pieces : ℕ → List Placed × Tail → ℕ → Type 0
   Pieces i r j = i + length (r .0) * 2 ≤ j
 
-  pieces-in : (n : ℕ) (x : Stage) (i : ℕ) → Upto (Pieces i) (chainIn n more end x s i)
+  pieces-in : (n : ℕ) (x : Stage) (i : ℕ) → Upto (Pieces i) (chainIn n (more m) end x s i)
   unfolding chainIn
   pieces-in zero x i = tt
-  pieces-in (suc n) x i = go (λ y j. pieces-in n y j) (more x s i) refl
+  pieces-in (suc n) x i = go (λ y j. pieces-in n y j) (more m x s i) refl
     where
-      go : ((y : Stage) (j : ℕ) → Upto (Pieces j) (chainIn n more end y s j)) → (r : Read (Placed × Stage)) → more x s i ≡ r →
-          Upto (Pieces i) (follow s i r (λ c. map (before (c .0)) (chainIn n more end (c .1))) (map last (end x)))
+      go : ((y : Stage) (j : ℕ) → Upto (Pieces j) (chainIn n (more m) end y s j)) → (r : Read (Placed × Stage)) → more m x s i ≡ r →
+          Upto (Pieces i) (follow s i r (λ c. map (before (c .0)) (chainIn n (more m) end (c .1))) (map last (end x)))
       go later (got c j) e =
-          let p = past (more-two {u = []} x) e in
-          upto-map (Pieces i) s j (before (c .0)) (chainIn n more end (c .1) s j)
-          (upto-less (Pieces j) (λ r k. Pieces i (before (c .0) r) k) (λ r k h. omega (arith, h, p .moves)) (chainIn n more end (c .1) s j) (later (c .1) j))
+          let p = past (more-two {u = []} m x) e in
+          upto-map (Pieces i) s j (before (c .0)) (chainIn n (more m) end (c .1) s j)
+          (upto-less (Pieces j) (λ r k. Pieces i (before (c .0) r) k) (λ r k h. omega (arith, h, p .moves)) (chainIn n (more m) end (c .1) s j) (later (c .1) j))
       go later none e = upto-then (Pieces i) s i _ (end x s i) (λ b j f. omega (arith, past (end-local x) f .moves))
       go later (refused k p) e = tt
 
@@ -147,19 +148,19 @@ module _ (s : List ℕ) where
   abbrev Items : ℕ → Rule → ℕ → Type 0
   Items i r j = (r .0 .items ≡ length (r .1)) × (i + length (r .1) * 2 ≤ j)
 
-  rule-items : (separator i : ℕ) → Upto (Items i) (rule separator s i)
+  rule-items : (separator i : ℕ) → Upto (Items i) (rule m separator s i)
   unfolding rule behind chain
   rule-items separator i =
-      upto-then (Items i) s i (behind i separator) (opening s i) (λ o j e.
-      let all = chainIn (suc (length s)) more end (o .stage) s j in
+      upto-then (Items i) s i (behind m i separator) (opening s i) (λ o j e.
+      let all = chainIn (suc (length s)) (more m) end (o .stage) s j in
       upto-map (Items i) s j (ruleOf i separator (o .comment)) all
       (upto-less (Pieces j) (λ r k. Items i (ruleOf i separator (o .comment) r) k) (λ r k h. (refl, omega (arith, h, past opening-local e .moves))) all (pieces-in (suc (length s)) (o .stage) j)))
 
   -- these and the head take a byte each at least
-  pub rule-takes : (separator i : ℕ) → Upto (λ r j. (r .0 .items ≡ length (r .1)) × (i + suc (length (r .1)) ≤ j)) (rule separator s i)
-  rule-takes separator i = go (rule separator s i) refl (rule-items separator i)
+  pub rule-takes : (separator i : ℕ) → Upto (λ r j. (r .0 .items ≡ length (r .1)) × (i + suc (length (r .1)) ≤ j)) (rule m separator s i)
+  rule-takes separator i = go (rule m separator s i) refl (rule-items separator i)
     where
-      go : (r : Read Rule) → rule separator s i ≡ r → Upto (Items i) r → Upto (λ r j. (r .0 .items ≡ length (r .1)) × (i + suc (length (r .1)) ≤ j)) r
-      go (got r j) e h = (h .0, omega (arith, h .1, past-one (rule-local separator) e))
+      go : (r : Read Rule) → rule m separator s i ≡ r → Upto (Items i) r → Upto (λ r j. (r .0 .items ≡ length (r .1)) × (i + suc (length (r .1)) ≤ j)) r
+      go (got r j) e h = (h .0, omega (arith, h .1, past-one (rule-local m separator) e))
       go none e h = tt
       go (refused k p) e h = tt

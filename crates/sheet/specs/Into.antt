@@ -4,18 +4,19 @@ use mathlib.Core.List.{List}
 use lib.IntN.{ℤ}
 use lib.ListN.{length}
 use Rattle.names.specs.Read.{Reader, map}
+use Rattle.names.specs.declared.Manner.{Manner}
 use Rattle.records.specs.Tables.{Tables, allKept}
 use Rattle.rules.specs.Rules.{rule}
 use Rattle.rules.specs.declared.Head.{Head}
 use Rattle.sheet.specs.Texts.{rules, ruleRecords, records}
 
 -- a rule's head, and the tables with its records from slot k on
-abbrev pub ruleInto : Tables → ℕ → ℕ → Reader (Head × Tables)
-ruleInto t k separator = map (λ r. (r .0, allKept t k (ruleRecords r))) (rule separator)
+abbrev pub ruleInto : Manner → Tables → ℕ → ℕ → Reader (Head × Tables)
+ruleInto m t k separator = map (λ r. (r .0, allKept t k (ruleRecords r))) (rule m separator)
 
 -- how many records the rules of a text have, and the tables with them
-abbrev pub rulesInto : Tables → Reader (ℕ × Tables)
-rulesInto t = map (λ l. (length (records (l .0)), allKept t 0 (records (l .0)))) rules
+abbrev pub rulesInto : Manner → Tables → Reader (ℕ × Tables)
+rulesInto m t = map (λ l. (length (records (l .0)), allKept t 0 (records (l .0)))) (rules m)
 
 -- what a reading answers, and the tables with its records
 abbrev pub into : {A : Type 0} → Tables → A × List (List ℤ) → A × Tables

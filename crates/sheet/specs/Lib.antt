@@ -5,5 +5,6 @@ pub mod Warnings
 pub mod Sheets
 pub mod Parts
 pub mod PartReadings
+pub mod Editions
 pub mod Notes
 pub mod Seen

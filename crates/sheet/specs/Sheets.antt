@@ -7,6 +7,8 @@ use lib.ListN.{length, drop}
 use Rattle.names.specs.Tests.{if_then_else_}
 use Rattle.names.specs.Read.{Read, got, none, refused}
 use Rattle.names.specs.Refusals.{noRoom, noShape, tooLong}
+use Rattle.names.specs.declared.Manner.{Manner}
+use Rattle.names.specs.declared.Manner.the-variants.{First}
 use Rattle.rules.specs.Rules.{Rule}
 use Rattle.records.specs.Tables.{Layout, asWords, asBytes, laid}
 use Rattle.sheet.specs.Texts.{rules, records}
@@ -34,12 +36,16 @@ judgedText s p n none = refusal noShape p
 judgedText s p n (refused k q) = refusal k q
 
 -- the answer and the records of the text from place p on to the end of s, for a table of n words
-unfoldable pub textOf : List ℕ → ℕ → ℕ → Answer × List (List ℤ)
-textOf s p n = judgedText s p n (rules s p)
+unfoldable pub textOf : Manner → List ℕ → ℕ → ℕ → Answer × List (List ℤ)
+textOf m s p n = judgedText s p n (rules m s p)
 
 -- the answer and the records of a sheet: one of over 4,096 bytes is not read
-unfoldable pub sheetOf : List ℕ → ℕ → Answer × List (List ℤ)
-sheetOf s n = if ltb 4096 (length s) then refusal tooLong 0 else textOf s 0 n
+unfoldable pub sheetBy : Manner → List ℕ → ℕ → Answer × List (List ℤ)
+sheetBy m s n = if ltb 4096 (length s) then refusal tooLong 0 else textOf m s 0 n
+
+-- by the first edition
+abbrev pub sheetOf : List ℕ → ℕ → Answer × List (List ℤ)
+sheetOf = sheetBy First
 
 -- a table after records are written: only their cells change
 abbrev pub tableAfterAs : {A : Type 0} → Layout A → List A → List (List ℤ) → List A
@@ -58,13 +64,21 @@ abbrev pub written : {A : Type 0} → List ℤ → A × List (List ℤ) → A ×
 written = writtenAs asWords
 
 -- the same of a sheet
-unfoldable pub sheetReading : List ℕ → List ℤ → Answer × List ℤ
-sheetReading s t = written t (sheetOf s (length t))
+unfoldable pub sheetReadingBy : Manner → List ℕ → List ℤ → Answer × List ℤ
+sheetReadingBy m s t = written t (sheetBy m s (length t))
+
+-- by the first edition
+abbrev pub sheetReading : List ℕ → List ℤ → Answer × List ℤ
+sheetReading = sheetReadingBy First
 
 -- a table of n bytes has room for as many records as one of so many words
 abbrev pub wordsIn : ℕ → ℕ
 wordsIn n = n / 64 * 16
 
 -- what reading a sheet into a table of bytes answers, and the table afterwards
-unfoldable pub sheetReadingBytes : List ℕ → List ℕ → Answer × List ℕ
-sheetReadingBytes s t = writtenAs asBytes t (sheetOf s (wordsIn (length t)))
+unfoldable pub sheetReadingBytesBy : Manner → List ℕ → List ℕ → Answer × List ℕ
+sheetReadingBytesBy m s t = writtenAs asBytes t (sheetBy m s (wordsIn (length t)))
+
+-- by the first edition
+abbrev pub sheetReadingBytes : List ℕ → List ℕ → Answer × List ℕ
+sheetReadingBytes = sheetReadingBytesBy First

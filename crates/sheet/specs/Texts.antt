@@ -2,6 +2,7 @@
 use Prim.Native.Nat.{ℕ}
 use mathlib.Core.List.{List, [], _∷_, _++_, map}
 use lib.IntN.{ℤ}
+use Rattle.names.specs.declared.Manner.{Manner}
 use Rattle.names.specs.Read.{Reader, nothing, pure, _>>=_, _>>_}
 use Rattle.names.specs.Chain.{chain}
 use Rattle.names.specs.Texts.{blanks}
@@ -20,17 +21,17 @@ afterRule r = do
   pure (r, n)
 
 -- a rule, and what parts it from the next
-unfoldable pub parted : ℕ → Reader (Rule × Next)
-parted separator = do
-  r ← rule separator
+unfoldable pub parted : Manner → ℕ → Reader (Rule × Next)
+parted m separator = do
+  r ← rule m separator
   afterRule r
 
 -- a rule of a text: "rule" is the place where the blanks before it end
-unfoldable pub moreRules : Next → Reader (Rule × Next)
-moreRules (Another separator) = do
+unfoldable pub moreRules : Manner → Next → Reader (Rule × Next)
+moreRules m (Another separator) = do
   blanks
-  parted separator
-moreRules Finished = nothing
+  parted m separator
+moreRules m Finished = nothing
 
 -- there are no more rules where the text has ended
 unfoldable pub noMore : Next → Reader (Unit {0})
@@ -38,8 +39,8 @@ noMore (Another separator) = nothing
 noMore Finished = pure tt
 
 -- the rules of a text: the first has the separator 0
-unfoldable pub rules : Reader (List Rule × Unit {0})
-rules = chain moreRules noMore (Another 0)
+unfoldable pub rules : Manner → Reader (List Rule × Unit {0})
+rules m = chain (moreRules m) noMore (Another 0)
 
 -- a rule's records: its head comes first, then its items in reading order
 abbrev pub ruleRecords : Rule → List (List ℤ)

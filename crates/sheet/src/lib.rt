@@ -1,4 +1,5 @@
 // A whole sheet, and its parts.
+mod editions;
 mod heads;
 mod notes;
 mod part_readings;
@@ -9,14 +10,25 @@ mod texts;
 mod warnings;
 
 use names::Cursor;
+use names::Manner;
 pub use notes::note;
 pub use notes::note_part;
 pub use part_readings::read_part;
 pub use part_readings::read_part_bytes;
+pub use part_readings::read_part_bytes_in;
+pub use part_readings::read_part_in;
 use rules::Next;
 pub use sheets::read_sheet;
 pub use sheets::read_sheet_bytes;
+pub use sheets::read_sheet_bytes_in;
+pub use sheets::read_sheet_in;
 pub use sheets::sheet_into;
+
+// An edition of the rules, named by its number: the manner of its reading, or none that is known.
+pub enum Edition {
+    Known(Manner),
+    Unknown,
+}
 
 // What reading a sheet answers.
 pub struct Answer {

@@ -7,6 +7,7 @@ ghost use Rattle.sheet.specs.Seen.{seenRuleInto};
 use crate::heads::head_words;
 use crate::heads::item_words;
 use names::Cursor;
+use names::Manner;
 use records::keep;
 use rules::OpeningRead;
 use rules::Piece;
@@ -19,6 +20,7 @@ use rules::head_of;
 // A rule is read: its head and the place after it, or its refusal. Its records go into both tables from a slot on, its head first, then its items, each where the table has its slot.
 pub fn fill_rule(
     s: &[u8],
+    m: Manner,
     c: Cursor,
     separator: u8,
     words: &mut [i32],
@@ -27,7 +29,7 @@ pub fn fill_rule(
 ) -> RuleRead
     requires { ⌜ length (now s) ≤ 4096 ⌝ }
     requires { ⌜ slot ≤ 4096 ⌝ }
-    ensures { λ r. ⌜ ruleInto (now (words .entry), now (bytes .entry)) slot separator (now (s .entry)) (c .at) ≡ seenRuleInto r (now (words .exit), now (bytes .exit)) ⌝ }
+    ensures { λ r. ⌜ ruleInto m (now (words .entry), now (bytes .entry)) slot separator (now (s .entry)) (c .at) ≡ seenRuleInto r (now (words .exit), now (bytes .exit)) ⌝ }
 {
     let o = begin(s, c);
     match o {
@@ -40,7 +42,7 @@ pub fn fill_rule(
                 stage,
             };
             loop {
-                let piece = spot.piece(s);
+                let piece = spot.piece(s, m);
                 match piece {
                     Piece::Item(a, p, kind, d) => {
                         n += 1;

@@ -4,13 +4,18 @@ ghost use mathlib.Core.Path.{_≡_};
 ghost use lib.ListN.{length, take, drop};
 ghost use Rattle.records.specs.Tables.{allKept, recordsIn};
 ghost use Rattle.sheet.specs.Sheets as sheets;
+ghost use Rattle.sheet.specs.Editions as editions;
 ghost use Rattle.sheet.specs.Into.{into};
 use crate::Answer;
 use crate::Counted;
+use crate::Edition;
+use crate::editions::edition_of;
 use crate::texts::fill_rules;
 use crate::warnings::warnings_of;
+use names::Manner;
 use names::NO_ROOM;
 use names::TOO_LONG;
+use names::UNKNOWN_EDITION;
 use records::keep;
 
 // A refusal gives 0 records and 0 warnings.
@@ -52,20 +57,27 @@ fn put_records(from: &[i32], n: usize, words: &mut [i32], bytes: &mut [u8])
 }
 
 // The text from place p on to the end of s is read into both tables, if a table of `size` words has room for its records. They are kept in a table of our own until they are counted; more than it holds are read again.
-pub fn read_text(s: &[u8], p: usize, size: usize, words: &mut [i32], bytes: &mut [u8]) -> Answer
+pub fn read_text(
+    s: &[u8],
+    m: Manner,
+    p: usize,
+    size: usize,
+    words: &mut [i32],
+    bytes: &mut [u8],
+) -> Answer
     requires { ⌜ length (now s) ≤ 4096 ⌝ }
-    ensures { λ r. ⌜ (r, (now (words .exit), now (bytes .exit))) ≡ into (now (words .entry), now (bytes .entry)) (sheets.textOf (now (s .entry)) p size) ⌝ }
+    ensures { λ r. ⌜ (r, (now (words .exit), now (bytes .exit))) ≡ into (now (words .entry), now (bytes .entry)) (sheets.textOf m (now (s .entry)) p size) ⌝ }
 {
     let mut few = [0i32; FEW * 16];
     let mut none = [0u8; 0];
-    let counted = fill_rules(s, p, &mut few, &mut none);
+    let counted = fill_rules(s, m, p, &mut few, &mut none);
     match counted {
         Counted::Got(n, _) => {
             if size / 16 < n {
                 return refusal(NO_ROOM, p);
             }
             if FEW < n {
-                fill_rules(s, p, words, bytes);
+                fill_rules(s, m, p, words, bytes);
             } else {
                 put_records(&few, n, words, bytes);
             }
@@ -81,27 +93,69 @@ pub fn read_text(s: &[u8], p: usize, size: usize, words: &mut [i32], bytes: &mut
 }
 
 // A sheet is read into both tables, if a table of `size` words has room for its records: one of over 4,096 bytes is not read.
-pub fn sheet_into(sheet: &[u8], size: usize, words: &mut [i32], bytes: &mut [u8]) -> Answer
-    ensures { λ r. ⌜ (r, (now (words .exit), now (bytes .exit))) ≡ into (now (words .entry), now (bytes .entry)) (sheets.sheetOf (now (sheet .entry)) size) ⌝ }
+pub fn sheet_into(
+    sheet: &[u8],
+    m: Manner,
+    size: usize,
+    words: &mut [i32],
+    bytes: &mut [u8],
+) -> Answer
+    ensures { λ r. ⌜ (r, (now (words .exit), now (bytes .exit))) ≡ into (now (words .entry), now (bytes .entry)) (sheets.sheetBy m (now (sheet .entry)) size) ⌝ }
 {
     if 4096 < sheet.len() {
         return refusal(TOO_LONG, 0);
     }
-    read_text(sheet, 0, size, words, bytes)
+    read_text(sheet, m, 0, size, words, bytes)
+}
+
+// A sheet is read into a table of words, in a manner.
+fn sheet_words(sheet: &[u8], m: Manner, table: &mut [i32]) -> Answer
+    ensures { λ r. ⌜ (r, now (table .exit)) ≡ sheets.sheetReadingBy m (now (sheet .entry)) (now (table .entry)) ⌝ }
+{
+    let mut none = [0u8; 0];
+    sheet_into(sheet, m, table.len(), table, &mut none)
+}
+
+// A sheet is read into a table of bytes, in a manner.
+fn sheet_bytes(sheet: &[u8], m: Manner, table: &mut [u8]) -> Answer
+    ensures { λ r. ⌜ (r, now (table .exit)) ≡ sheets.sheetReadingBytesBy m (now (sheet .entry)) (now (table .entry)) ⌝ }
+{
+    let mut none = [0i32; 0];
+    sheet_into(sheet, m, table.len() / 64 * 16, &mut none, table)
 }
 
 // A sheet is read into a table of words.
 pub fn read_sheet(sheet: &[u8], table: &mut [i32]) -> Answer
     ensures { λ r. ⌜ (r, now (table .exit)) ≡ sheets.sheetReading (now (sheet .entry)) (now (table .entry)) ⌝ }
 {
-    let mut none = [0u8; 0];
-    sheet_into(sheet, table.len(), table, &mut none)
+    sheet_words(sheet, Manner::First, table)
 }
 
 // A sheet is read into a table of bytes.
 pub fn read_sheet_bytes(sheet: &[u8], table: &mut [u8]) -> Answer
     ensures { λ r. ⌜ (r, now (table .exit)) ≡ sheets.sheetReadingBytes (now (sheet .entry)) (now (table .entry)) ⌝ }
 {
-    let mut none = [0i32; 0];
-    sheet_into(sheet, table.len() / 64 * 16, &mut none, table)
+    sheet_bytes(sheet, Manner::First, table)
+}
+
+// A sheet is read in an edition into a table of words.
+pub fn read_sheet_in(edition: u32, sheet: &[u8], table: &mut [i32]) -> Answer
+    ensures { λ r. ⌜ (r, now (table .exit)) ≡ editions.sheetReadingIn edition (now (sheet .entry)) (now (table .entry)) ⌝ }
+{
+    let named = edition_of(edition);
+    match named {
+        Edition::Known(m) => sheet_words(sheet, m, table),
+        Edition::Unknown => refusal(UNKNOWN_EDITION, 0),
+    }
+}
+
+// A sheet is read in an edition into a table of bytes.
+pub fn read_sheet_bytes_in(edition: u32, sheet: &[u8], table: &mut [u8]) -> Answer
+    ensures { λ r. ⌜ (r, now (table .exit)) ≡ editions.sheetReadingBytesIn edition (now (sheet .entry)) (now (table .entry)) ⌝ }
+{
+    let named = edition_of(edition);
+    match named {
+        Edition::Known(m) => sheet_bytes(sheet, m, table),
+        Edition::Unknown => refusal(UNKNOWN_EDITION, 0),
+    }
 }

@@ -12,6 +12,7 @@ use crate::Parted;
 use crate::rule::fill_rule;
 use items::missing;
 use names::Cursor;
+use names::Manner;
 use rules::Next;
 use rules::NextRead;
 use rules::RuleRead;
@@ -38,16 +39,16 @@ pub fn parted(s: &[u8], r: RuleRead) -> Parted
 }
 
 // The rules of the text from place p on are read: how many records they have and the place after them, or their refusal. The records go into both tables, each where the table has its slot.
-pub fn fill_rules(s: &[u8], p: usize, words: &mut [i32], bytes: &mut [u8]) -> Counted
+pub fn fill_rules(s: &[u8], m: Manner, p: usize, words: &mut [i32], bytes: &mut [u8]) -> Counted
     requires { ⌜ length (now s) ≤ 4096 ⌝ }
-    ensures { λ r. ⌜ rulesInto (now (words .entry), now (bytes .entry)) (now (s .entry)) p ≡ seenRulesInto r (now (words .exit), now (bytes .exit)) ⌝ }
+    ensures { λ r. ⌜ rulesInto m (now (words .entry), now (bytes .entry)) (now (s .entry)) p ≡ seenRulesInto r (now (words .exit), now (bytes .exit)) ⌝ }
 {
     let mut slot: usize = 0;
     let mut at = p;
     let mut separator: u8 = 0;
     loop {
         let c = Cursor { at }.blanks(s);
-        let r = parted(s, fill_rule(s, c, separator, words, bytes, slot));
+        let r = parted(s, fill_rule(s, m, c, separator, words, bytes, slot));
         match r {
             Parted::Got(items, behind, d) => {
                 slot += items + 1;

@@ -5,6 +5,8 @@ use mathlib.Core.Bool.{not}
 use mathlib.Core.Path.{refl}
 use native.Mathlib.Omega.{arith}
 use Rattle.names.specs.Names.{event}
+use Rattle.names.specs.declared.Manner.{Manner}
+use Rattle.names.specs.declared.Manner.the-variants.{First, Second}
 use Rattle.names.proofs.Local.{loose, free, pure-local, then-local, or-local}
 use Rattle.names.proofs.Cut.{byte-local, hour-local, minute-local, minutes-local}
 use Rattle.names.proofs.NameCut.{name-local}
@@ -61,16 +63,17 @@ module _ {u : List ℕ} where
   spanShape-alike = then-local rawTime-alike spanBehind-alike
 
 -- a span's refusals have numbers
-pub meaning-refuses : (r : RawSpan) → Refuses (spanMeaning r)
+pub meaning-refuses : (m : Manner) (r : RawSpan) → Refuses (spanMeaning m r)
 unfolding spanMeaning
-meaning-refuses r = refuses-if (not (goodSpan r)) (Refused 4) (spanOf r) (omega arith) (go r)
+meaning-refuses m r = refuses-if (not (goodSpan r)) (Refused 4) (spanOf m r) (omega arith) (go m r)
   where
-    go : (r : RawSpan) → Refuses (spanOf r)
-    go (Alone t) = omega arith
-    go (Open t) = tt
-    go (Until a b t) = tt
+    go : (m : Manner) (r : RawSpan) → Refuses (spanOf m r)
+    go First (Alone t) = omega arith
+    go Second (Alone t) = tt
+    go m (Open t) = tt
+    go m (Until a b t) = tt
 
 -- an item of a time list
-pub timeItem-alike : {u : List ℕ} → Alike u 1 timeItem
+pub timeItem-alike : (m : Manner) {u : List ℕ} → Alike u 1 (timeItem m)
 unfolding timeItem
-timeItem-alike = item-alike spanShape-alike spanMeaning meaning-refuses
+timeItem-alike m = item-alike spanShape-alike (spanMeaning m) (meaning-refuses m)

@@ -9,6 +9,7 @@ use Rattle.names.specs.Read.{Read, got, none, refused, one, ahead}
 use Rattle.names.specs.Chain.{chainIn, chain, many, skip}
 use Rattle.names.specs.Texts.{bytes, byte, allOf}
 use Rattle.names.specs.Numbers.{isDigit, digit, upTo, digits, clockBehind, number}
+use Rattle.names.specs.declared.Manner.the-variants.{First, Second}
 use Rattle.names.specs.Names.{names, spelledSo, lower, letter, firstOf, word, name}
 use Rattle.records.specs.Items.{signed}
 use Rattle.records.specs.declared.Item.{Item}
@@ -23,7 +24,11 @@ use Rattle.times.specs.Meanings.{dayClock, endClock, repeatClock, spanMe
 
 -- a span of times
 span : Time → Time → Repeat → Bool → Item
-span start end repeats plus = Times (record { start = start; end = end; repeats = repeats; plus = plus })
+span start end repeats plus = Times (record { start = start; end = end; repeats = repeats; plus = plus; point = false })
+
+-- a time alone
+point : Time → Item
+point t = Times (record { start = t; end = t; repeats = Never; plus = false; point = true })
 
 -- a text, a place in it, and what is read there: 4 before 8, and spans are not reordered
 spans : List (String × (ℕ × Read Item))
@@ -50,7 +55,23 @@ spans =
     ∷ ("Mo", (0, none))
     ∷ []
 
-spans-right : map (λ e. timeItem (bytes (e .0)) (e .1 .0)) spans ≡ map (λ e. e .1 .1) spans
+spans-right : map (λ e. timeItem First (bytes (e .0)) (e .1 .0)) spans ≡ map (λ e. e .1 .1) spans
 unfolding spans span timeItem spanShape spanBehind untilTime tail repeated rawTime movedEvent moved clock spanMeaning dayClock endClock repeatClock
     number digits upTo digit isDigit within clockBehind skip many chain chainIn byte one ahead name word firstOf names allOf letter spelledSo lower
 spans-right = refl
+
+-- the second edition: a time alone, a span written out that is none, and what a time alone does not have
+points : List (String × Read Item)
+points =
+    ("10:00", got (point (Fixed 600)) 5)
+    ∷ ("24:00", got (point (Fixed 1440)) 5)
+    ∷ ("(sunset-0:30)", got (point (Sun 3 (signed true 30))) 13)
+    ∷ ("10:00-10:00", got (span (Fixed 600) (Fixed 600) Never false) 11)
+    ∷ ("10:00/30", got (point (Fixed 600)) 5)
+    ∷ ("10:60", refused 4 0)
+    ∷ []
+
+points-right : map (λ e. timeItem Second (bytes (e .0)) 0) points ≡ map (λ e. e .1) points
+unfolding points point span timeItem spanShape spanBehind untilTime tail repeated rawTime movedEvent moved clock spanMeaning dayClock endClock repeatClock
+    number digits upTo digit isDigit within clockBehind skip many chain chainIn byte one ahead name word firstOf names allOf letter spelledSo lower
+points-right = refl

@@ -1,10 +1,12 @@
 -- Ranges: MM 0 to 59; hour 0 to 23 with 24:00 besides; as a span's end 0:00 to 48:00. `/24:00` is out of range.
--- `10:00+` ends at 24:00, open. Spans are not reordered. A time alone is refused as 8.
+-- `10:00+` ends at 24:00, open. Spans are not reordered. A time alone is refused as 8, but for the second edition, where it ends where it starts.
 use Prim.Native.Nat.{ℕ, _+_, _*_}
 use mathlib.Core.Bool.{Bool, true, false, _&&_, _||_, not}
 use lib.Dec.{leb, eqb}
 use Rattle.names.specs.Tests.{if_then_else_}
 use Rattle.names.specs.Refusals.{pointInTime, range}
+use Rattle.names.specs.declared.Manner.{Manner}
+use Rattle.names.specs.declared.Manner.the-variants.{First, Second}
 use Rattle.records.specs.Items.{signed}
 use Rattle.records.specs.declared.Time.{Time}
 use Rattle.records.specs.declared.Time.the-variants as time
@@ -79,12 +81,17 @@ plusOf Plus = true
 plusOf (Minutes m) = false
 plusOf (Hours c) = false
 
+-- what a time alone is: a point in time, refused by the first edition, a span that ends where it starts in the second
+abbrev pub aloneOf : Manner → RawTime → Meant
+aloneOf First t = Refused pointInTime
+aloneOf Second t = Is (Times (record { start = timeOf t; end = timeOf t; repeats = Never; plus = false; point = true }))
+
 -- what a span in range is
-abbrev pub spanOf : RawSpan → Meant
-spanOf (Alone t) = Refused pointInTime
-spanOf (Open t) = Is (Times (record { start = timeOf t; end = time.Fixed 1440; repeats = Never; plus = true }))
-spanOf (Until a b t) = Is (Times (record { start = timeOf a; end = timeOf b; repeats = repeatOf t; plus = plusOf t }))
+abbrev pub spanOf : Manner → RawSpan → Meant
+spanOf m (Alone t) = aloneOf m t
+spanOf m (Open t) = Is (Times (record { start = timeOf t; end = time.Fixed 1440; repeats = Never; plus = true; point = false }))
+spanOf m (Until a b t) = Is (Times (record { start = timeOf a; end = timeOf b; repeats = repeatOf t; plus = plusOf t; point = false }))
 
 -- the meaning: 4, then 8
-unfoldable pub spanMeaning : RawSpan → Meant
-spanMeaning r = if not (goodSpan r) then Refused range else spanOf r
+unfoldable pub spanMeaning : Manner → RawSpan → Meant
+spanMeaning m r = if not (goodSpan r) then Refused range else spanOf m r

@@ -3,6 +3,7 @@ use Prim.Native.Nat.{ℕ}
 use Rattle.names.specs.Read.{Reader, pure, _>>=_, _>>_, _or_}
 use Rattle.names.specs.Texts.{sign}
 use Rattle.names.specs.Numbers.{minutes}
+use Rattle.names.specs.declared.Manner.{Manner}
 use Rattle.records.specs.Items.{item, meant}
 use Rattle.records.specs.declared.Item.{Item}
 use Rattle.times.specs.Times.{clock, rawTime, eventAlone}
@@ -40,9 +41,9 @@ spanShape = do
   spanBehind start
 
 -- an item of a time list
-unfoldable pub timeItem : Reader Item
-timeItem = item spanShape spanMeaning
+unfoldable pub timeItem : Manner → Reader Item
+timeItem m = item spanShape (spanMeaning m)
 
 -- the item that begins at p with an event e, behind the event
-unfoldable pub eventItemBehind : ℕ → ℕ → Reader Item
-eventItemBehind p e = meant p (spanBehind (eventAlone e)) spanMeaning
+unfoldable pub eventItemBehind : Manner → ℕ → ℕ → Reader Item
+eventItemBehind m p e = meant p (spanBehind (eventAlone e)) (spanMeaning m)

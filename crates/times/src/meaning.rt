@@ -5,6 +5,7 @@ use crate::Clock;
 use crate::RawSpan;
 use crate::RawTail;
 use crate::RawTime;
+use names::Manner;
 use names::POINT_IN_TIME;
 use names::RANGE;
 use records::Item;
@@ -140,12 +141,31 @@ fn plus_of(t: RawTail) -> bool
     }
 }
 
-// What a span in range is: a time alone is refused, `10:00+` ends at 24:00, open.
-fn span_of(r: RawSpan) -> Meant
-    ensures { λ x. ⌜ x ≡ meanings.spanOf r ⌝ }
+// What a time alone is: refused by the first edition, in the second a span that ends where it starts.
+fn alone_of(m: Manner, t: RawTime) -> Meant
+    ensures { λ x. ⌜ x ≡ meanings.aloneOf m t ⌝ }
+{
+    match m {
+        Manner::First => Meant::Refused(POINT_IN_TIME),
+        Manner::Second => {
+            let only = time_of(t);
+            Meant::Is(Item::Times(Span {
+                start: only,
+                end: only,
+                repeats: Repeat::Never,
+                plus: false,
+                point: true,
+            }))
+        }
+    }
+}
+
+// What a span in range is: `10:00+` ends at 24:00, open.
+fn span_of(m: Manner, r: RawSpan) -> Meant
+    ensures { λ x. ⌜ x ≡ meanings.spanOf m r ⌝ }
 {
     match r {
-        RawSpan::Alone(_) => Meant::Refused(POINT_IN_TIME),
+        RawSpan::Alone(t) => alone_of(m, t),
         RawSpan::Open(t) => {
             let start = time_of(t);
             Meant::Is(Item::Times(Span {
@@ -153,6 +173,7 @@ fn span_of(r: RawSpan) -> Meant
                 end: Time::Fixed(1440),
                 repeats: Repeat::Never,
                 plus: true,
+                point: false,
             }))
         }
         RawSpan::Until(a, b, t) => {
@@ -165,17 +186,18 @@ fn span_of(r: RawSpan) -> Meant
                 end,
                 repeats,
                 plus,
+                point: false,
             }))
         }
     }
 }
 
 // The meaning.
-pub fn span_meaning(r: RawSpan) -> Meant
-    ensures { λ x. ⌜ x ≡ meanings.spanMeaning r ⌝ }
+pub fn span_meaning(m: Manner, r: RawSpan) -> Meant
+    ensures { λ x. ⌜ x ≡ meanings.spanMeaning m r ⌝ }
 {
     if good_span(r) {
-        span_of(r)
+        span_of(m, r)
     } else {
         Meant::Refused(RANGE)
     }

@@ -19,6 +19,7 @@ use crate::clocks::clock;
 use crate::clocks::raw_time;
 use crate::meaning::span_meaning;
 use names::Cursor;
+use names::Manner;
 use names::Num;
 use names::Step;
 use records::ItemRead;
@@ -105,32 +106,33 @@ fn span_behind(s: &[u8], c: Cursor, start: RawTime) -> SpanThen
 }
 
 // The item that begins at p, behind its start.
-fn span_item_behind(s: &[u8], p: usize, c: Cursor, start: RawTime) -> ItemRead
-    ensures { λ r. ⌜ meant p (spans.spanBehind start) meanings.spanMeaning (now (s .entry)) (c .at) ≡ seenItem r ⌝ }
+fn span_item_behind(s: &[u8], m: Manner, p: usize, c: Cursor, start: RawTime) -> ItemRead
+    ensures { λ r. ⌜ meant p (spans.spanBehind start) (meanings.spanMeaning m) (now (s .entry)) (c .at) ≡ seenItem r ⌝ }
 {
     let shape = span_behind(s, c, start);
     let span = shape.span;
     let next = shape.next;
-    judged(p, span_meaning(span), next)
+    judged(p, span_meaning(m, span), next)
 }
 
 // An item of a time list.
-pub fn time_item(s: &[u8], c: Cursor) -> ItemRead
-    ensures { λ r. ⌜ spans.timeItem (now (s .entry)) (c .at) ≡ seenItem r ⌝ }
+pub fn time_item(s: &[u8], m: Manner, c: Cursor) -> ItemRead
+    ensures { λ r. ⌜ spans.timeItem m (now (s .entry)) (c .at) ≡ seenItem r ⌝ }
 {
     let first = raw_time(s, c);
     let TimeRead::Got(start, d) = first else {
         return ItemRead::Missing;
     };
-    span_item_behind(s, c.at, d, start)
+    span_item_behind(s, m, c.at, d, start)
 }
 
 // The item that begins at p with an event, behind the event.
-pub fn event_item_behind(s: &[u8], p: usize, c: Cursor, event: u8) -> ItemRead
-    ensures { λ r. ⌜ spans.eventItemBehind p event (now (s .entry)) (c .at) ≡ seenItem r ⌝ }
+pub fn event_item_behind(s: &[u8], m: Manner, p: usize, c: Cursor, event: u8) -> ItemRead
+    ensures { λ r. ⌜ spans.eventItemBehind m p event (now (s .entry)) (c .at) ≡ seenItem r ⌝ }
 {
     span_item_behind(
         s,
+        m,
         p,
         c,
         RawTime::Sun(event, false, Clock { hour: 0, minute: 0 }),

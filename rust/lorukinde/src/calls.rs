@@ -1,4 +1,4 @@
-//! The three calls of the static library, as include/lorukinde.h declares them. All that is unsafe in this crate stands here.
+//! The calls of the static library, as include/lorukinde.h declares them. All that is unsafe in this crate stands here.
 //!
 //! What the library asks of its caller: no pointer is null, not even one with the length 0; each points to so many bytes, or to
 //! one number, that are initialised; what a call writes to overlaps nothing else that it is given. A call keeps no pointer,
@@ -18,6 +18,31 @@ extern "C" {
     ) -> u32;
 
     fn lorukinde_read_part(
+        sheet: *const u8,
+        sheet_len: usize,
+        begin: usize,
+        table: *mut u8,
+        table_len: usize,
+        place: *mut u32,
+        records: *mut u32,
+        warnings: *mut u32,
+        next: *mut u32,
+        last: *mut u32,
+    ) -> u32;
+
+    fn lorukinde_read_sheet_in(
+        edition: u32,
+        sheet: *const u8,
+        sheet_len: usize,
+        table: *mut u8,
+        table_len: usize,
+        place: *mut u32,
+        records: *mut u32,
+        warnings: *mut u32,
+    ) -> u32;
+
+    fn lorukinde_read_part_in(
+        edition: u32,
         sheet: *const u8,
         sheet_len: usize,
         begin: usize,
@@ -55,41 +80,42 @@ pub struct Answer {
     pub last: u32,
 }
 
-pub fn read_sheet(sheet: &[u8], table: &mut [Record]) -> Answer {
+/// By which of the calls a sheet or a part is read.
+#[derive(Clone, Copy, Debug)]
+pub enum How {
+    Plain,
+    Edition(u32),
+}
+
+pub fn read_sheet(how: How, sheet: &[u8], table: &mut [Record]) -> Answer {
     let mut a = Answer::default();
+    let (s, n) = (sheet.as_ptr(), sheet.len());
+    let (t, bytes) = (table.as_mut_ptr().cast::<u8>(), std::mem::size_of_val(table));
+    let (place, records, warnings) = (&mut a.place, &mut a.records, &mut a.warnings);
     // Sound: a slice's pointer is never null, and its bytes are initialised. A Record is 64 bytes without padding, of which any
     // values are a Record, so the table is size_of_val(table) bytes to be written at will. The table is lent to us alone, and
-    // the numbers are three fields of our own, so nothing written overlaps anything.
+    // the numbers are three fields of our own, so nothing written overlaps anything. Any edition has an answer.
     a.number = unsafe {
-        lorukinde_read_sheet(
-            sheet.as_ptr(),
-            sheet.len(),
-            table.as_mut_ptr().cast::<u8>(),
-            std::mem::size_of_val(table),
-            &mut a.place,
-            &mut a.records,
-            &mut a.warnings,
-        )
+        match how {
+            How::Plain => lorukinde_read_sheet(s, n, t, bytes, place, records, warnings),
+            How::Edition(edition) => lorukinde_read_sheet_in(edition, s, n, t, bytes, place, records, warnings),
+        }
     };
     a
 }
 
-pub fn read_part(sheet: &[u8], begin: usize, table: &mut [Record]) -> Answer {
+pub fn read_part(how: How, sheet: &[u8], begin: usize, table: &mut [Record]) -> Answer {
     let mut a = Answer::default();
+    let (s, n) = (sheet.as_ptr(), sheet.len());
+    let (t, bytes) = (table.as_mut_ptr().cast::<u8>(), std::mem::size_of_val(table));
+    let (place, records, warnings) = (&mut a.place, &mut a.records, &mut a.warnings);
+    let (next, last) = (&mut a.next, &mut a.last);
     // Sound: as for a sheet, with five fields of our own. Any `begin` has an answer: it is compared, not followed.
     a.number = unsafe {
-        lorukinde_read_part(
-            sheet.as_ptr(),
-            sheet.len(),
-            begin,
-            table.as_mut_ptr().cast::<u8>(),
-            std::mem::size_of_val(table),
-            &mut a.place,
-            &mut a.records,
-            &mut a.warnings,
-            &mut a.next,
-            &mut a.last,
-        )
+        match how {
+            How::Plain => lorukinde_read_part(s, n, begin, t, bytes, place, records, warnings, next, last),
+            How::Edition(edition) => lorukinde_read_part_in(edition, s, n, begin, t, bytes, place, records, warnings, next, last),
+        }
     };
     a
 }

@@ -139,7 +139,8 @@ pub enum HolidayKind {
     School,
 }
 
-/// From a time to a time, in the order in which they are written. With an open end it may last longer.
+/// From a time to a time, in the order in which they are written. With an open end it may last longer. A point in time, which
+/// edition 2 of the sheet rules knows, ends where it starts.
 #[derive(Clone, Copy, Debug, PartialEq, Eq)]
 pub struct Span {
     pub start: Time,
@@ -147,6 +148,7 @@ pub struct Span {
     /// Minutes from one point of the span to the next.
     pub repeat: Option<i32>,
     pub open_end: bool,
+    pub is_point: bool,
 }
 
 #[derive(Clone, Copy, Debug, PartialEq, Eq)]
@@ -254,9 +256,13 @@ fn meaning(w: &[i32; 16]) -> Option<Meaning> {
             from_end: marks(w[5])?,
         }),
         7 => Meaning::Holiday(Holiday { kind: numbered(&[HolidayKind::Public, HolidayKind::School], w[1])?, day_offset: w[2] }),
-        8 => {
-            Meaning::Span(Span { start: time(w[1], w[2])?, end: time(w[3], w[4])?, repeat: repeat(w[5])?, open_end: flag(w[6])? })
-        }
+        8 => Meaning::Span(Span {
+            start: time(w[1], w[2])?,
+            end: time(w[3], w[4])?,
+            repeat: repeat(w[5])?,
+            open_end: flag(w[6])?,
+            is_point: flag(w[7])?,
+        }),
         _ => return None,
     })
 }

@@ -12,7 +12,8 @@
 //!
 //! [`parts`] is what a job over many sheets wants: a slip loses its part and no other. [`read_sheet`] takes a sheet as a whole,
 //! and [`read_part`] a single part, both into a table that the caller lends and without allocating. [`read_feed`] takes many
-//! sheets at once, one a line.
+//! sheets at once, one a line. These read by edition 1 of the sheet rules; [`parts_in`], [`read_sheet_in`] and [`read_part_in`]
+//! by the edition that they are given.
 //! The records' words, in [`Entry`], and the refusals' numbers, in [`Refusal`], are those of `include/lorukinde.h`.
 #![warn(missing_debug_implementations)]
 #![deny(unsafe_code)]
@@ -29,12 +30,13 @@ mod words;
 
 use std::borrow::Cow;
 
+use calls::How;
 pub use entry::{
     Date, Dates, Day, Entry, Event, Head, Holiday, HolidayKind, Meaning, Month, Months, Separator, Span, State, Steps, Time,
     ToWeekday, Weekday, Weekdays,
 };
 pub use feed::{read_feed, Feed, Line, LineAnswer, Lines};
-pub use parts::{parts, Part, Parts};
+pub use parts::{parts, parts_in, Part, Parts};
 pub use reading::{Reading, Rule, Rules};
 pub use record::Record;
 pub use refusal::Refusal;
@@ -45,21 +47,38 @@ pub const SHEET_BYTES: usize = 4096;
 /// Reads a whole sheet into the table. Accepted, only the records of the reading are written, at the table's start; refused,
 /// the table is as it was.
 pub fn read_sheet<'a>(sheet: &'a [u8], table: &'a mut [Record]) -> Result<Reading<'a>, Refusal> {
-    outcome(sheet, calls::read_sheet(sheet, table), table)
+    outcome(sheet, calls::read_sheet(How::Plain, sheet, table), table)
+}
+
+/// Reads a whole sheet as [`read_sheet`] does, by edition 1 or 2 of the sheet rules; another edition is refused. Edition 2 accepts
+/// besides a time alone ([`Span::is_point`]), marks after a range of weekdays (`Mo-Fr[1]`), and a day offset after any weekday item
+/// (`Mo +1 day`). What edition 1 accepts has the same records in both.
+pub fn read_sheet_in<'a>(edition: u32, sheet: &'a [u8], table: &'a mut [Record]) -> Result<Reading<'a>, Refusal> {
+    outcome(sheet, calls::read_sheet(How::Edition(edition), sheet, table), table)
 }
 
 /// The answer for one part.
 #[derive(Clone, Debug, PartialEq, Eq)]
 pub struct PartReading<'a> {
     pub reading: Result<Reading<'a>, Refusal>,
-    /// Where the next part begins; None if this was the last, or if the sheet is too long or no part begins at the given place.
+    /// Where the next part begins; None if this was the last, or if the sheet is too long, no part begins at the given place, or
+    /// there is no such edition.
     pub next: Option<usize>,
 }
 
 /// Reads the part of a sheet that begins at a place, the first at 0, into the table, which is written to as by [`read_sheet`].
 /// Places count from the sheet's first byte.
 pub fn read_part<'a>(sheet: &'a [u8], begin: usize, table: &'a mut [Record]) -> PartReading<'a> {
-    let answer = calls::read_part(sheet, begin, table);
+    part_by(How::Plain, sheet, begin, table)
+}
+
+/// Reads a part as [`read_part`] does, by an edition of the sheet rules as [`read_sheet_in`] does.
+pub fn read_part_in<'a>(edition: u32, sheet: &'a [u8], begin: usize, table: &'a mut [Record]) -> PartReading<'a> {
+    part_by(How::Edition(edition), sheet, begin, table)
+}
+
+fn part_by<'a>(how: How, sheet: &'a [u8], begin: usize, table: &'a mut [Record]) -> PartReading<'a> {
+    let answer = calls::read_part(how, sheet, begin, table);
     let next = (answer.last == 0).then_some(answer.next as usize);
     PartReading { reading: outcome(sheet, answer, table), next }
 }

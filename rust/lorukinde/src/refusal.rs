@@ -4,8 +4,8 @@ use std::fmt;
 
 /// A refusal: its number, and its place as bytes from the start of the sheet. For 4 to 9 that is the first byte of the item at
 /// fault (its year's, if it has one; a week's number's), for 3 and 12 how far its rule could be read, for 11 where the empty rule
-/// begins (after the blanks before it), for 13 the first quote of the comment, for 10 where the sheet or the part begins, for 1, 2
-/// and 14 it is 0.
+/// begins (after the blanks before it), for 13 the first quote of the comment, for 10 where the sheet or the part begins, for 1, 2,
+/// 14 and 19 it is 0.
 ///
 /// Its `Display` says in plain words what is wrong, for the one who wrote the sheet.
 #[derive(Clone, Copy, Debug, PartialEq, Eq, Hash)]
@@ -29,6 +29,7 @@ impl Refusal {
     pub const BROKEN_QUOTE: u32 = 12;
     pub const ILL_FORMED_COMMENT: u32 = 13;
     pub const NO_ANSWER_ROOM: u32 = 14;
+    pub const UNKNOWN_EDITION: u32 = 19;
 }
 
 /// Where something stands, so that nobody has to ask whether bytes are counted from 0 or from 1.
@@ -73,6 +74,7 @@ impl fmt::Display for Refusal {
                 write!(f, "the comment {at} has bytes that are no letters (it is not well-formed UTF-8)")
             }
             Refusal::NO_ANSWER_ROOM => write!(f, "the feed has more lines than there is room for answers"),
+            Refusal::UNKNOWN_EDITION => write!(f, "there is no such edition of the sheet rules"),
             other => write!(f, "what stands {at} is refused with the number {other}, which this version has no words for"),
         }
     }

@@ -193,6 +193,9 @@ impl fmt::Display for Time {
 
 impl fmt::Display for Span {
     fn fmt(&self, f: &mut fmt::Formatter<'_>) -> fmt::Result {
+        if self.is_point {
+            return write!(f, "at {}", self.start);
+        }
         write!(f, "{} to {}", self.start, self.end)?;
         if self.open_end {
             write!(f, " or later")?;

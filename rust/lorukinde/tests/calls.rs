@@ -1,7 +1,10 @@
 //! The calls at their edges: lengths, places, tables, notes; and what a refusal says.
 mod common;
 use common::{at, mark, marked, words};
-use lorukinde::{note, parts, read_feed, read_part, read_sheet, Head, LineAnswer, Meaning, Record, Refusal, Separator, State};
+use lorukinde::{
+    note, parts, parts_in, read_feed, read_part, read_part_in, read_sheet, read_sheet_in, Head, LineAnswer, Meaning, Record,
+    Refusal, Separator, State,
+};
 
 fn refusal(number: u32, place: usize) -> Refusal {
     Refusal { number, place }
@@ -178,6 +181,30 @@ fn items_know_their_places() {
 }
 
 #[test]
+fn editions() {
+    let sheet = b"10:00;Mo-Fr[1] +1 day";
+    for edition in [0, 3, u32::MAX] {
+        let mut table = marked(9);
+        assert_eq!(read_sheet_in(edition, &[b' '; 4097], &mut table), Err(refusal(Refusal::UNKNOWN_EDITION, 0)));
+        let part = read_part_in(edition, sheet, 1, &mut table);
+        assert_eq!((part.reading, part.next), (Err(refusal(Refusal::UNKNOWN_EDITION, 0)), None));
+        assert_eq!(table, marked(9));
+        assert_eq!(parts_in(edition, sheet).map(|part| part.range).collect::<Vec<_>>(), [0..21]);
+    }
+    let (mut one, mut in_one) = (marked(9), marked(9));
+    assert_eq!(read_sheet(sheet, &mut one), Err(refusal(Refusal::POINT_IN_TIME, 0)));
+    assert_eq!(read_sheet_in(1, sheet, &mut in_one), Err(refusal(Refusal::POINT_IN_TIME, 0)));
+
+    let mut table = marked(9);
+    let reading = read_sheet_in(2, sheet, &mut table).unwrap();
+    let words_of: Vec<_> = reading.records().iter().map(Record::words).collect();
+    let (first, second) = (words([1, 0, 0, 0, 0, 1]), at(6, words([1, 0, 0, 0, 0, 1])));
+    assert_eq!(words_of, [first, words([8, 0, 600, 0, 600, -1, 0, 1]), second, at(6, words([6, 1, 5, 1, 1, 0]))]);
+    assert!(matches!(reading.entries().nth(1).unwrap().meaning, Meaning::Span(span) if span.is_point && span.start == span.end));
+    assert!(parts_in(2, sheet).all(|part| part.reading.is_ok()));
+}
+
+#[test]
 fn feeds() {
     let unused = LineAnswer::from_words([7; 4]);
     let feed = b"Mo;Tu\nx\n2020 Dec 25-05 off \"c\"\n";
@@ -209,13 +236,14 @@ fn feeds() {
 
 #[test]
 fn refusals_in_plain_words() {
-    let said: Vec<String> = (1..=14).map(|number| refusal(number, 12).to_string()).collect();
+    let numbers: Vec<u32> = (1..=14).chain([19]).collect();
+    let said: Vec<String> = numbers.iter().map(|number| refusal(*number, 12).to_string()).collect();
+    let without_place =
+        [Refusal::TOO_LONG, Refusal::NO_PART, Refusal::NO_ROOM, Refusal::NO_ANSWER_ROOM, Refusal::UNKNOWN_EDITION];
     for (i, text) in said.iter().enumerate() {
-        let without_place = [Refusal::TOO_LONG, Refusal::NO_PART, Refusal::NO_ROOM, Refusal::NO_ANSWER_ROOM];
-        let has_no_place = without_place.contains(&(i as u32 + 1));
-        assert_eq!(text.contains("12 bytes into the sheet"), !has_no_place, "{text}");
-        assert_eq!(text.contains("the item 12 bytes into"), (4..=9).contains(&(i + 1)), "{text}");
-        assert!(!said[..i].contains(text), "{text}");
+        assert_eq!(text.contains("12 bytes into the sheet"), !without_place.contains(&numbers[i]), "{text}");
+        assert_eq!(text.contains("the item 12 bytes into"), (4..=9).contains(&numbers[i]), "{text}");
+        assert!(!text.contains("no words for") && !said[..i].contains(text), "{text}");
     }
     assert_eq!(said[0], "the sheet is longer than 4,096 bytes");
     assert!(refusal(Refusal::NO_SHAPE, 0).to_string().starts_with("at the start of the sheet something is missing"));

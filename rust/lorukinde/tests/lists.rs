@@ -1,32 +1,34 @@
 //! Long lists of sheets with fixed answers, and what parts and sheets owe each other on random ones.
 mod common;
-use common::{feed_lines, lines_of, part_lines, place_line, sheet_lines};
-use lorukinde::{note, parts, read_part, read_sheet, Head, Meaning, Record, Refusal, Separator, State};
+use common::{feed_lines, lines_of, part_lines, place_line, sheet_lines, By};
+use lorukinde::{note, parts, read_sheet, Head, Meaning, Record, Refusal, Separator, State};
 
 /// Cases with the answers of the repository's second reader, which repeat each case before its answer. A case: four digits for the
-/// words of the table, a letter, a blank or digit, a sheet. S is the sheet, P its parts and their places, A both, L both without the
-/// places, X two sheets that differ in one part, N notes; F a feed, byte 9 for byte 10, after four digits for the words of the answer
-/// table.
+/// words of the table, a letter, a byte more, a sheet. S is the sheet, P its parts and their places, A both, L both without the
+/// places, by the edition that the byte more says, a blank for the calls without one; X two sheets that differ in the part that it
+/// says, Y the same in edition 2; N notes; F a feed, byte 9 for byte 10, after four digits for the words of the answer table.
 fn replay(cases: &str, answers: &str) -> usize {
     let cases = lines_of(cases).unwrap();
     let mut expected = lines_of(answers).unwrap().into_iter();
     for case in &cases {
         let room = number_of(&case[..4]) / 16;
-        let (mode, sheet) = (case[4], &case[6..]);
+        let (mode, more, sheet) = (case[4], case[5], &case[6..]);
         let mut lines = vec![case.clone()];
         match mode {
-            b'X' => lines.push(exchange_line(sheet, usize::from(case[5] - b'0'), room)),
+            b'X' => lines.push(exchange_line(By::Plain, sheet, usize::from(more - b'0'), room)),
+            b'Y' => lines.push(exchange_line(By::Edition(2), sheet, usize::from(more - b'0'), room)),
             b'N' => lines.extend(note_lines(sheet)),
             b'F' => lines.extend(feed_case_lines(sheet, room)),
             _ => {
+                let by = if more == b' ' { By::Plain } else { By::Edition(u32::from(more - b'0')) };
                 if b"SAL".contains(&mode) {
-                    lines.extend(sheet_lines(sheet, room));
+                    lines.extend(sheet_lines(by, sheet, room));
                 }
                 if b"PAL".contains(&mode) {
-                    lines.extend(part_lines(sheet, room));
+                    lines.extend(part_lines(by, sheet, room));
                 }
                 if b"PA".contains(&mode) {
-                    lines.push(place_line(sheet, room));
+                    lines.push(place_line(by, sheet, room));
                 }
             }
         }
@@ -41,6 +43,11 @@ fn replay(cases: &str, answers: &str) -> usize {
 #[test]
 fn the_repositorys_cases() {
     assert!(replay("crates/cases/stdin", "crates/cases/stdout") > 3000);
+}
+
+#[test]
+fn the_cases_of_editions() {
+    assert!(replay("tools/cases_ask9.txt", "tools/cases_ask9.out") > 1000);
 }
 
 #[test]
@@ -85,12 +92,12 @@ struct Said {
     next: Option<usize>,
 }
 
-fn all_said(sheet: &[u8], room: usize) -> Vec<Said> {
+fn all_said(by: By, sheet: &[u8], room: usize) -> Vec<Said> {
     let mut all = Vec::new();
     let mut begin = Some(0);
     while let Some(at) = begin {
         let mut table = common::marked(room);
-        let part = read_part(sheet, at, &mut table);
+        let part = by.part(sheet, at, &mut table);
         begin = part.next;
         let reading = part.reading.as_ref();
         all.push(Said {
@@ -111,9 +118,9 @@ fn all_said(sheet: &[u8], room: usize) -> Vec<Said> {
 }
 
 /// Two sheets with byte 9 between them, of which part `k` differs: how many of the others are read alike, and how many not.
-fn exchange_line(two: &[u8], k: usize, room: usize) -> Vec<u8> {
+fn exchange_line(by: By, two: &[u8], k: usize, room: usize) -> Vec<u8> {
     let tab = two.iter().position(|byte| *byte == b'\t').unwrap();
-    let (one, other) = (all_said(&two[..tab], room), all_said(&two[tab + 1..], room));
+    let (one, other) = (all_said(by, &two[..tab], room), all_said(by, &two[tab + 1..], room));
     let others = one.iter().zip(&other).enumerate().filter(|(i, _)| *i != k);
     let (alike, not): (Vec<_>, Vec<_>) = others.partition(|(_, (a, b))| a == b);
     format!("X {} {}", alike.len(), not.len()).into_bytes()
@@ -159,7 +166,7 @@ fn the_oracles_list() {
     let mut expected = expected.into_iter().skip(1);
     let mut moved = 0;
     for sheet in &sheets[1..] {
-        for line in sheet_lines(sheet, 512).iter().map(|line| without_place(line)) {
+        for line in sheet_lines(By::Plain, sheet, 512).iter().map(|line| without_place(line)) {
             let rusts = expected.next().unwrap();
             if line != rusts {
                 assert!(moved_to_the_next_month(&line, &rusts), "{}", String::from_utf8_lossy(sheet));

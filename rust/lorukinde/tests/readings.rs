@@ -1,6 +1,6 @@
 //! The cases of document 04: which number a refusal has, where it stands, and which words an item has.
 mod common;
-use common::{bytes_of, feed_lines, lines_of, one_part, sheet_lines};
+use common::{bytes_of, feed_lines, lines_of, one_part, sheet_lines, By};
 
 /// tools/readings_04.txt: section, Ask and call, sheet, answer, parted by byte 9. The first line says how it was made.
 #[test]
@@ -10,11 +10,16 @@ fn the_documents_cases() {
         let line = String::from_utf8_lossy(line);
         let fields: Vec<&str> = line.split('\t').collect();
         let (sheet, expected) = (bytes_of(fields[2]), fields[3].replace("more", "0").replace("last", "1"));
-        let got = match fields[1].split(' ').collect::<Vec<_>>()[..] {
-            [_] => sheet_lines(&sheet, 512).swap_remove(0),
-            [_, "words"] => items(sheet_lines(&sheet, 512)),
-            [_, "part", begin] => one_part(&sheet, begin.parse().unwrap(), 512).0.swap_remove(0),
-            [_, "feed", answers, words] => feed_answers(feed_lines(&sheet, answers.parse().unwrap(), words.parse().unwrap())),
+        let call: Vec<&str> = fields[1].split(' ').collect();
+        let by = match call[0].split_once('/') {
+            None => By::Plain,
+            Some((_, edition)) => By::Edition(edition.parse().unwrap()),
+        };
+        let got = match call[1..] {
+            [] => sheet_lines(by, &sheet, 512).swap_remove(0),
+            ["words"] => items(sheet_lines(by, &sheet, 512)),
+            ["part", begin] => one_part(by, &sheet, begin.parse().unwrap(), 512).0.swap_remove(0),
+            ["feed", answers, words] => feed_answers(feed_lines(&sheet, answers.parse().unwrap(), words.parse().unwrap())),
             _ => panic!("no such call: {line}"),
         };
         assert_eq!(String::from_utf8_lossy(&got), expected, "{line}");

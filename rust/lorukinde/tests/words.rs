@@ -1,5 +1,5 @@
 //! What is said in plain words.
-use lorukinde::{parts, Refusal};
+use lorukinde::{parts, parts_in, Refusal};
 
 fn said(sheet: &str) -> Vec<String> {
     parts(sheet.as_bytes())
@@ -47,6 +47,20 @@ fn rules_in_plain_words() {
         ("Dec 24-Mo", "open: the Monday on or before 24 December"),
     ] {
         assert_eq!(said(sheet), [words], "{sheet}");
+    }
+}
+
+#[test]
+fn what_edition_2_adds() {
+    for (sheet, words) in [
+        ("Mo 10:00,sunset", "open: Monday, at 10:00 and at sunset"),
+        ("(dawn-0:30) off", "closed: at 30 minutes before dawn"),
+        ("Mo-Fr[1,-1]", "open: the 1st and last Monday to Friday of the month"),
+        ("Sa-Su -2 days", "open: 2 days before Saturday to Sunday"),
+    ] {
+        let rules: Vec<_> =
+            parts_in(2, sheet.as_bytes()).map(|part| part.reading.unwrap().rules().next().unwrap().to_string()).collect();
+        assert_eq!(rules, [words], "{sheet}");
     }
 }
 

@@ -1,6 +1,31 @@
 //! What the tests share: a table with marked bytes, and answers as the programs of the repository write them.
 #![allow(dead_code)] // each test file takes what it needs
-use lorukinde::{read_feed, read_part, read_sheet, LineAnswer, Reading, Record, Refusal};
+use lorukinde::{
+    read_feed, read_part, read_part_in, read_sheet, read_sheet_in, LineAnswer, PartReading, Reading, Record, Refusal,
+};
+
+/// By which calls a sheet or a part is read.
+#[derive(Clone, Copy)]
+pub enum By {
+    Plain,
+    Edition(u32),
+}
+
+impl By {
+    pub fn sheet<'a>(self, sheet: &'a [u8], table: &'a mut [Record]) -> Result<Reading<'a>, Refusal> {
+        match self {
+            By::Plain => read_sheet(sheet, table),
+            By::Edition(edition) => read_sheet_in(edition, sheet, table),
+        }
+    }
+
+    pub fn part<'a>(self, sheet: &'a [u8], begin: usize, table: &'a mut [Record]) -> PartReading<'a> {
+        match self {
+            By::Plain => read_part(sheet, begin, table),
+            By::Edition(edition) => read_part_in(edition, sheet, begin, table),
+        }
+    }
+}
 
 /// Words that no reading writes, to see what a reading has left alone.
 pub fn mark() -> Record {
@@ -48,9 +73,9 @@ fn hold_rest(table: &[Record], records: usize, sheet: &[u8]) {
 }
 
 /// A sheet's answer as lines: four numbers, then each record.
-pub fn sheet_lines(sheet: &[u8], room: usize) -> Vec<Vec<u8>> {
+pub fn sheet_lines(by: By, sheet: &[u8], room: usize) -> Vec<Vec<u8>> {
     let mut table = marked(room);
-    let reading = read_sheet(sheet, &mut table);
+    let reading = by.sheet(sheet, &mut table);
     let answer = four(&reading);
     let mut lines = vec![numbers(answer.clone())];
     lines.extend(record_lines(&reading));
@@ -59,9 +84,9 @@ pub fn sheet_lines(sheet: &[u8], room: usize) -> Vec<Vec<u8>> {
 }
 
 /// A part's answer as lines, six numbers and then each record; and where the next part begins.
-pub fn one_part(sheet: &[u8], begin: usize, room: usize) -> (Vec<Vec<u8>>, Option<usize>) {
+pub fn one_part(by: By, sheet: &[u8], begin: usize, room: usize) -> (Vec<Vec<u8>>, Option<usize>) {
     let mut table = marked(room);
-    let part = read_part(sheet, begin, &mut table);
+    let part = by.part(sheet, begin, &mut table);
     let mut answer = four(&part.reading);
     answer.extend([part.next.unwrap_or(0) as i64, part.next.is_none().into()]);
     let mut lines = vec![numbers(answer.clone())];
@@ -72,11 +97,11 @@ pub fn one_part(sheet: &[u8], begin: usize, room: usize) -> (Vec<Vec<u8>>, Optio
 }
 
 /// The parts' answers as lines, by `next` from 0 on.
-pub fn part_lines(sheet: &[u8], room: usize) -> Vec<Vec<u8>> {
+pub fn part_lines(by: By, sheet: &[u8], room: usize) -> Vec<Vec<u8>> {
     let mut lines = Vec::new();
     let mut begin = Some(0);
     while let Some(at) = begin {
-        let (part, next) = one_part(sheet, at, room);
+        let (part, next) = one_part(by, sheet, at, room);
         lines.extend(part);
         begin = next;
     }
@@ -84,9 +109,9 @@ pub fn part_lines(sheet: &[u8], room: usize) -> Vec<Vec<u8>> {
 }
 
 /// The places, up to one after the end, where a part begins.
-pub fn place_line(sheet: &[u8], room: usize) -> Vec<u8> {
+pub fn place_line(by: By, sheet: &[u8], room: usize) -> Vec<u8> {
     let mut table = marked(room);
-    let mut begins = |at: &usize| match read_part(sheet, *at, &mut table).reading {
+    let mut begins = |at: &usize| match by.part(sheet, *at, &mut table).reading {
         Err(refusal) => refusal.number != Refusal::NO_PART,
         Ok(_) => true,
     };

@@ -24,4 +24,4 @@ weekday-item-spec =
     (λ c. rw (was (c .before .before .name .ensures) (c .enum-told .given .1) .is))  -- returns
     (λ c. omega (arith, name (c .before)))  -- cast-weekday-item-behind
     (λ c κs. search needs)  -- weekday-item-behind-requires
-    (λ c. item-behind (names.name weekday) weekdayBehind weekdayMeaning (name (c .before .before) .is) ∙ c .weekday-item-behind .ensures))  -- returns-2
+    (λ c. item-behind (names.name weekday) (weekdayBehind (c .before .before .before .before .before .before .args .m)) weekdayMeaning (name (c .before .before) .is) ∙ c .weekday-item-behind .ensures))  -- returns-2

@@ -13,4 +13,4 @@ weekday-item-behind-spec =
     (λ c κs. search needs)  -- weekday-behind-requires
     (λ c κs. search needs)  -- weekday-meaning-requires
     (λ c κs. search needs)  -- judged-requires
-    (λ c. meant-is (c .before .before .before .before .before .before .args .p) (weekdayBehind (c .before .before .before .before .before .before .args .first)) weekdayMeaning (c .before .before .before .before .weekday-behind .ensures) (c .before .weekday-meaning .ensures) (c .judged .ensures)))  -- returns
+    (λ c. meant-is (c .before .before .before .before .before .before .args .p) (weekdayBehind (c .before .before .before .before .before .before .args .m) (c .before .before .before .before .before .before .args .first)) weekdayMeaning (c .before .before .before .before .weekday-behind .ensures) (c .before .weekday-meaning .ensures) (c .judged .ensures)))  -- returns

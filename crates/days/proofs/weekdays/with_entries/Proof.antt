@@ -1,39 +1,24 @@
 -- `days::with_entries` meets its contract.
 use borrow.Author.Needs.{needs}
 use mathlib.Core.Path.{ap}
-use Rattle.names.proofs.Facts.{Went, went, Said, said}
+use Rattle.names.proofs.Facts.{Said, said}
 use Rattle.days.specs.Weekdays.{withEntries}
 use Rattle.days.specs.Seen.{seenMarks}
 use Rattle.days.specs.declared.Marks.{Marks}
 use Rattle.days.proofs.weekdays.with_entries.Statement.{statement}
 use Rattle.days.proofs.weekdays.with_entries.Tie as tie
 
--- what was found so far
-abbrev left : tie.After-left → Went
-left c = went (c .before .before .sign .ensures) (c .left .given .1)
-
-abbrev inner : tie.After-inner → Went × Said Marks
-inner c = (left (c .before .before .before .before), said (c .before .before .entries .ensures) (ap seenMarks (c .inner .given .1)))
-
-abbrev right : tie.After-right → Went × Said Marks × Went
-right c = let w = inner (c .before .before .before .before) in (w .0, w .1, went (c .before .before .sign2 .ensures) (c .right .given .1))
+abbrev inner : tie.After-inner → Said Marks
+inner c = said (c .before .before .bracketed .ensures) (ap seenMarks (c .inner .given .1))
 
 pub with-entries-spec : {M : Type 1} → statement M
 unfolding withEntries
 with-entries-spec =
     tie.close
     (tie.spec
-    (λ c κs. search needs)  -- sign-requires
-    (λ c. search needs)  -- enum-known-left
-    (λ c. search needs)  -- enum-told
-    (λ c. rw (went (c .before .before .sign .ensures) (c .enum-told .given .1) .is))  -- returns
-    (λ c κs. search needs)  -- entries-requires
+    (λ c κs. search needs)  -- bracketed-requires
     (λ c. search needs)  -- enum-known-inner
-    (λ c. search needs)  -- enum-told-2
-    (λ c. rw (left (c .before .before .before .before) .is, said (c .before .before .entries .ensures) (ap seenMarks (c .enum-told2 .given .1)) .is))  -- returns-2
-    (λ c κs. search needs)  -- sign-requires-2
-    (λ c. search needs)  -- enum-known-right
-    (λ c. search needs)  -- enum-told-3
-    (λ c. let w = inner (c .before .before .before .before) in rw (w .0 .is, w .1 .is, went (c .before .before .sign2 .ensures) (c .enum-told3 .given .1) .is))  -- returns-3
+    (λ c. search needs)  -- enum-told
+    (λ c. rw (said (c .before .before .bracketed .ensures) (ap seenMarks (c .enum-told .given .1)) .is))  -- returns
     (λ c κs. search needs)  -- any-days-requires
-    (λ c. let w = right (c .before .before .before .before) in rw (w .0 .is, w .1 .is, w .2 .is, c .before .before .any-days .ensures)))  -- returns-4
+    (λ c. rw (inner (c .before .before .before .before) .is, c .before .before .any-days .ensures)))  -- returns-2

@@ -17,6 +17,6 @@ month-day-spec =
     (λ c κs. search needs)  -- has-requires
     (λ c κs. search needs)  -- dated-requires
     (λ c κs. search needs)  -- found-requires
-    (λ c. let d = c .before in let h = d .before in
-    finds-one _ _ _ MonthDays (c .found .result) (sym (h .before .has .ensures) ∙ h .if1 .taken) (item-at _ _ (d .dated .ensures)) (c .found .ensures))  -- returns
-    (λ c. pick-not _ _ _ MonthDays (sym (c .before .has .ensures) ∙ c .if1 .left)))  -- returns-2
+    (λ c m. let d = c .before in let h = d .before in
+    finds-one _ _ _ _ MonthDays (c .found .result) (sym (h .before .has .ensures) ∙ h .if1 .taken) (item-at _ _ (d .dated .ensures)) (c .found .ensures))  -- returns
+    (λ c m. pick-not _ _ _ _ MonthDays (sym (c .before .has .ensures) ∙ c .if1 .left)))  -- returns-2

@@ -23,13 +23,13 @@ named-spec =
     (λ c κs. search needs)  -- wanted-as-requires
     (λ c. search needs)  -- enum-known-wish
     (λ c. search needs)  -- enum-told
-    (λ c. let w = c .before .before .before .before .pre in (unwished _ _ w _ (sym (c .before .before .wanted-as .ensures) ∙ c .enum-told .given .1), w))  -- returns
+    (λ c. let w = c .before .before .before .before .pre in (unwished _ _ _ w _ (sym (c .before .before .wanted-as .ensures) ∙ c .enum-told .given .1), w))  -- returns
     (λ c κs. search needs)  -- begun-requires
     (λ c. search needs)  -- enum-known-item
     (λ c κs. search needs)  -- place-of-requires
     (λ c. search needs)  -- enum-told-2
     (λ c. search needs)  -- enum-known-item-2
     (λ c. let i = c .before .before in let b = i .before .before in
-    wished-item _ _ (start b .pre) _ (wish b) (b .begun .ensures ∙ ap seenItem (i .item .given .1)) ∙ rw (c .place-of .ensures))  -- returns-2
-    (λ c. (wished-none _ _ (start (c .before .before) .pre) _ (wish (c .before .before)) (c .before .before .begun .ensures ∙ ap seenItem (c .enum-told2 .given .1)), start (c .before .before) .pre))  -- returns-3
-    (λ c. wished-refused _ _ (start (c .before .before .before) .pre) _ (wish (c .before .before .before)) (c .before .before .before .begun .ensures ∙ ap seenItem (c .before .item2 .given .1))))  -- returns-4
+    wished-item _ _ _ (start b .pre) _ (wish b) (b .begun .ensures ∙ ap seenItem (i .item .given .1)) ∙ rw (c .place-of .ensures))  -- returns-2
+    (λ c. (wished-none _ _ _ (start (c .before .before) .pre) _ (wish (c .before .before)) (c .before .before .begun .ensures ∙ ap seenItem (c .enum-told2 .given .1)), start (c .before .before) .pre))  -- returns-3
+    (λ c. wished-refused _ _ _ (start (c .before .before .before) .pre) _ (wish (c .before .before .before)) (c .before .before .before .begun .ensures ∙ ap seenItem (c .before .item2 .given .1))))  -- returns-4

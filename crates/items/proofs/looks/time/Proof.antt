@@ -18,5 +18,5 @@ time-spec =
     (λ c κs. search needs)  -- time-item-requires
     (λ c κs. search needs)  -- found-requires
     (λ c. let d = c .before in let h = d .before in
-    finds-one _ _ _ Times (c .found .result) (sym (h .before .has .ensures) ∙ h .if1 .taken) (item-at _ _ (d .time-item .ensures)) (c .found .ensures))  -- returns
-    (λ c. pick-not _ _ _ Times (sym (c .before .has .ensures) ∙ c .if1 .left)))  -- returns-2
+    finds-one _ _ _ _ Times (c .found .result) (sym (h .before .has .ensures) ∙ h .if1 .taken) (item-at _ _ (d .time-item .ensures)) (c .found .ensures))  -- returns
+    (λ c. pick-not _ _ _ _ Times (sym (c .before .has .ensures) ∙ c .if1 .left)))  -- returns-2

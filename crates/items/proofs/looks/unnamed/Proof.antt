@@ -10,7 +10,7 @@ unnamed-spec =
     (tie.spec
     (λ c κs. search needs)  -- year-first-requires
     (λ c. search needs)  -- enum-told
-    (λ c. let y = c .before in yearly-stands _ _ _ (y .before .before .pre) (y .year-first .result) (y .year-first .ensures) (c .match .keys2))  -- returns
+    (λ c. let y = c .before in yearly-stands _ _ _ _ (y .before .before .pre) (y .year-first .result) (y .year-first .ensures _) (c .match .keys2))  -- returns
     (λ c κs. search needs)  -- with-number-requires
     (λ c. let e = c .before in let y = e .before .before in
-    numbered-stands _ _ _ (y .before .before .pre) (y .year-first .result) (y .year-first .ensures) (e .enum-told .given .1) (c .with-number .result) (c .with-number .ensures)))  -- returns-2
+    numbered-stands _ _ _ _ (y .before .before .pre) (y .year-first .result) (y .year-first .ensures _) (e .enum-told .given .1) (c .with-number .result) (c .with-number .ensures)))  -- returns-2

@@ -23,5 +23,5 @@ year-first-spec =
     (λ c κs. number (c .before) .is)  -- with-year-requires
     (λ c. search needs)  -- enum-told
     (λ c. search needs)  -- returns
-    (λ c. pick-yearless _ _ _ (was (c .before .before .year .ensures) (c .enum-told .given .1) .is) (c .before .before .before .before .before .before .pre))  -- returns-2
-    (λ c. pick-neither _ _ _ (sym (c .before .wants-years .ensures) ∙ c .if1 .left)))  -- returns-3
+    (λ c m. pick-yearless _ _ _ _ (was (c .before .before .year .ensures) (c .enum-told .given .1) .is) (c .before .before .before .before .before .before .pre))  -- returns-2
+    (λ c m. pick-neither _ _ _ _ (sym (c .before .wants-years .ensures) ∙ c .if1 .left)))  -- returns-3

@@ -14,11 +14,13 @@ span-words-spec =
     (λ c κs. search needs)  -- time-words-requires-2
     (λ c κs. search needs)  -- repeat-word-requires
     (λ c κs. search needs)  -- bit-requires
+    (λ c κs. search needs)  -- bit-requires-2
     (λ c.
-    let o = c .before .before .bit in
-    let p = c .before .before .before .repeat-word in
-    let b = c .before .before .before .before .time-words2 in
-    let a = c .before .before .before .before .before .time-words in
+    let q = c .before .before .bit2 in
+    let o = c .before .before .before .bit in
+    let p = c .before .before .before .before .repeat-word in
+    let b = c .before .before .before .before .before .time-words2 in
+    let a = c .before .before .before .before .before .before .time-words in
     let ga = c .before .struct-told .given in
     let gb = c .struct-told2 .given in
-    rw (kept (a .result .kind) (ga .0 .1), kept (a .result .minutes) (ga .1 .0 .1), kept (b .result .kind) (gb .0 .1), kept (b .result .minutes) (gb .1 .0 .1), kept (p .result) (p .ok), kept (o .result) (o .ok), ← a .ensures, ← b .ensures, ← p .ensures, ← o .ensures)))  -- returns
+    rw (kept (a .result .kind) (ga .0 .1), kept (a .result .minutes) (ga .1 .0 .1), kept (b .result .kind) (gb .0 .1), kept (b .result .minutes) (gb .1 .0 .1), kept (p .result) (p .ok), kept (o .result) (o .ok), kept (q .result) (q .ok), ← a .ensures, ← b .ensures, ← p .ensures, ← o .ensures, ← q .ensures)))  -- returns

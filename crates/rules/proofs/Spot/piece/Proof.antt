@@ -18,21 +18,21 @@ start c = c .before .before .before .before .before .before
 
 -- where the rule goes on
 abbrev on : (c : tie.After-look-at) → let a = start c .args in let g = c .before .before .turn2 .given .0 in
-    piece (a .self .stage) (now (a .s)) (a .self .at) ≡ turned (now (a .s)) (a .self .stage) (a .self .at) (On (g .0) (g .1 .0) (g .1 .1 .0))
-on c = let a = start c .args in c .before .before .before .before .turn .ensures ∙ ap (turned (now (a .s)) (a .self .stage) (a .self .at)) (c .before .before .turn2 .given .1)
+    piece (a .m) (a .self .stage) (now (a .s)) (a .self .at) ≡ turned (a .m) (now (a .s)) (a .self .stage) (a .self .at) (On (g .0) (g .1 .0) (g .1 .1 .0))
+on c = let a = start c .args in c .before .before .before .before .turn .ensures _ ∙ ap (turned (a .m) (now (a .s)) (a .self .stage) (a .self .at)) (c .before .before .turn2 .given .1)
 
 -- an item has to stand there, or may
 abbrev has : (c : tie.After-look-at) → c .before .before .turn2 .given .0 .1 .1 .0 ≡ true → let a = start c .args in let g = c .before .before .turn2 .given .0 in
-    piece (a .self .stage) (now (a .s)) (a .self .at) ≡ turned (now (a .s)) (a .self .stage) (a .self .at) (On (g .0) (g .1 .0) true)
-has c e = let a = start c .args in let g = c .before .before .turn2 .given .0 in on c ∙ ap (λ m. turned (now (a .s)) (a .self .stage) (a .self .at) (On (g .0) (g .1 .0) m)) e
+    piece (a .m) (a .self .stage) (now (a .s)) (a .self .at) ≡ turned (a .m) (now (a .s)) (a .self .stage) (a .self .at) (On (g .0) (g .1 .0) true)
+has c e = let a = start c .args in let g = c .before .before .turn2 .given .0 in on c ∙ ap (λ m. turned (a .m) (now (a .s)) (a .self .stage) (a .self .at) (On (g .0) (g .1 .0) m)) e
 
 abbrev may : (c : tie.After-look-at) → c .before .before .turn2 .given .0 .1 .1 .0 ≡ false → let a = start c .args in let g = c .before .before .turn2 .given .0 in
-    piece (a .self .stage) (now (a .s)) (a .self .at) ≡ turned (now (a .s)) (a .self .stage) (a .self .at) (On (g .0) (g .1 .0) false)
-may c e = let a = start c .args in let g = c .before .before .turn2 .given .0 in on c ∙ ap (λ m. turned (now (a .s)) (a .self .stage) (a .self .at) (On (g .0) (g .1 .0) m)) e
+    piece (a .m) (a .self .stage) (now (a .s)) (a .self .at) ≡ turned (a .m) (now (a .s)) (a .self .stage) (a .self .at) (On (g .0) (g .1 .0) false)
+may c e = let a = start c .args in let g = c .before .before .turn2 .given .0 in on c ∙ ap (λ m. turned (a .m) (now (a .s)) (a .self .stage) (a .self .at) (On (g .0) (g .1 .0) m)) e
 
 -- what stands there
-look : (c : tie.After-look-at) {r : Stands} → c .look-at .result ≡ r → let g = c .before .before .turn2 .given .0 in Standing (kindsOf (g .1 .0)) (now (start c .args .s)) (g .0 .at) r
-look c e = let g = c .before .before .turn2 .given .0 in subst (Standing (kindsOf (g .1 .0)) (now (start c .args .s)) (g .0 .at)) e (c .look-at .ensures)
+look : (c : tie.After-look-at) {r : Stands} → c .look-at .result ≡ r → let g = c .before .before .turn2 .given .0 in Standing (start c .args .m) (kindsOf (g .1 .0)) (now (start c .args .s)) (g .0 .at) r
+look c e = let g = c .before .before .turn2 .given .0 in subst (Standing (start c .args .m) (kindsOf (g .1 .0)) (now (start c .args .s)) (g .0 .at)) e (c .look-at .ensures)
 
 pub piece-spec : {M : Type 1} → statement M
 piece-spec =
@@ -43,28 +43,28 @@ piece-spec =
     (λ c. search needs)  -- enum-told
     (λ c κs. search needs)  -- ended-requires
     (λ c. let u = c .before .before .before in let a = u .before .before .args in
-    u .turn .ensures ∙ ap (turned (now (a .s)) (a .self .stage) (a .self .at)) (c .before .enum-told .given .1) ∙ c .ended .ensures)  -- returns
+    u .turn .ensures _ ∙ ap (turned (a .m) (now (a .s)) (a .self .stage) (a .self .at)) (c .before .enum-told .given .1) ∙ c .ended .ensures)  -- returns
     (λ c κs. search needs)  -- look-at-requires
     (λ c. search needs)  -- enum-known-found
     (λ c. search needs)  -- enum-known-found-2
     (λ c. search needs)  -- enum-known-found-3
     (λ c κs. search needs)  -- lacking-requires
     (λ c. let t = c .before in let f = t .before .before in let l = f .before .before in
-    has l (t .if1 .taken) ∙ has-none _ _ _ (look l (f .found3 .given .1) .0) ∙ c .lacking .ensures .0)  -- returns-2
+    has l (t .if1 .taken) ∙ has-none _ _ _ _ (look l (f .found3 .given .1) .0) ∙ c .lacking .ensures .0)  -- returns-2
     (λ c κs. search needs)  -- with-comment-requires
     (λ c. let e = c .before .before in let f = e .before .before in let l = f .before .before in let w = look l (f .found3 .given .1) in
-    may l (e .if1 .left) ∙ may-modifier _ _ _ _ _ (w .0) (w .1) (c .before .if2 .taken) ∙ c .with-comment .ensures)  -- returns-3
+    may l (e .if1 .left) ∙ may-modifier _ _ _ _ _ _ (w .0) (w .1) (c .before .if2 .taken) ∙ c .with-comment .ensures)  -- returns-3
     (λ c κs. search needs)  -- ended-requires-2
     (λ c. search needs)  -- enum-told-2
     (λ c κs. search needs)  -- lacking-requires-2
     (λ c. let t = c .before in let f = t .before in let l = f .before .before in
-    has l (t .if3 .taken) ∙ has-none _ _ _ (look l (f .enum-told2 .given .1) .0) ∙ c .lacking2 .ensures .0)  -- returns-4
+    has l (t .if3 .taken) ∙ has-none _ _ _ _ (look l (f .enum-told2 .given .1) .0) ∙ c .lacking2 .ensures .0)  -- returns-4
     (λ c κs. search needs)  -- noted-requires
     (λ c. let f = c .before in let l = f .before .before in let a = start l .args in let g = l .before .before .turn2 .given .0 in
-    on l ∙ turned-item (now (a .s)) (a .self .stage) (a .self .at) (g .0) (g .1 .0) (g .1 .1 .0) (look l (f .found .given .1)))  -- returns-5
+    on l ∙ turned-item (a .m) (now (a .s)) (a .self .stage) (a .self .at) (g .0) (g .1 .0) (g .1 .1 .0) (look l (f .found .given .1)))  -- returns-5
     (λ c. let f = c .before in let l = f .before .before in let a = start l .args in let g = l .before .before .turn2 .given .0 in
-    on l ∙ turned-refused (now (a .s)) (a .self .stage) (a .self .at) (g .0) (g .1 .0) (g .1 .1 .0) (look l (f .found2 .given .1)))  -- returns-6
+    on l ∙ turned-refused (a .m) (now (a .s)) (a .self .stage) (a .self .at) (g .0) (g .1 .0) (g .1 .1 .0) (look l (f .found2 .given .1)))  -- returns-6
     (λ c. let e = c .before .before in let f = e .before .before in let l = f .before .before in let w = look l (f .found3 .given .1) in
-    may l (e .if1 .left) ∙ may-other _ _ _ _ _ (w .0) (w .1) (c .before .if2 .left) ∙ c .ended2 .ensures)  -- returns-7
+    may l (e .if1 .left) ∙ may-other _ _ _ _ _ _ (w .0) (w .1) (c .before .if2 .left) ∙ c .ended2 .ensures)  -- returns-7
     (λ c. let e = c .before in let f = e .before in let l = f .before .before in let w = look l (f .enum-told2 .given .1) in
-    may l (e .if3 .left) ∙ may-unnamed _ _ _ _ _ (w .0) (w .1) ∙ c .noted .ensures))  -- returns-8
+    may l (e .if3 .left) ∙ may-unnamed _ _ _ _ _ _ (w .0) (w .1) ∙ c .noted .ensures))  -- returns-8

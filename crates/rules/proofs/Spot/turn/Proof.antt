@@ -18,7 +18,7 @@ turn-spec =
     (λ c κs. search needs)  -- after-colon-requires
     (λ c. search needs)  -- enum-known-stage
     (λ c κs. search needs)  -- after-item-requires
-    (λ c. rw (c .enum-told .given .1) (first-piece _ _))  -- returns
-    (λ c. rw (c .before .enum-told2 .given .1) (always-piece _ _ ∙ c .after-blank .ensures _))  -- returns-2
-    (λ c. rw (c .before .enum-told3 .given .1) (colon-piece _ _ ∙ c .after-colon .ensures _ _))  -- returns-3
-    (λ c. rw (c .before .before .stage .given .1) (c .after-item .ensures)))  -- returns-4
+    (λ c m. rw (c .enum-told .given .1) (first-piece m _ _))  -- returns
+    (λ c m. rw (c .before .enum-told2 .given .1) (always-piece m _ _ ∙ c .after-blank .ensures m _))  -- returns-2
+    (λ c m. rw (c .before .enum-told3 .given .1) (colon-piece m _ _ ∙ c .after-colon .ensures m _ _))  -- returns-3
+    (λ c m. rw (c .before .before .stage .given .1) (c .after-item .ensures m)))  -- returns-4

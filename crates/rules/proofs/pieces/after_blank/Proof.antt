@@ -12,5 +12,5 @@ after-blank-spec =
     (λ c κs. search needs)  -- blank-requires
     (λ c. search needs)  -- enum-known-before
     (λ c. search needs)  -- enum-told
-    (λ c x. blank-on _ _ _ x (went (c .before .before .before .blank .ensures) (c .before .before2 .given .1) .is))  -- returns
-    (λ c x. blank-off _ _ _ x (went (c .before .before .blank .ensures) (c .enum-told .given .1) .is)))  -- returns-2
+    (λ c m x. blank-on m _ _ _ x (went (c .before .before .before .blank .ensures) (c .before .before2 .given .1) .is))  -- returns
+    (λ c m x. blank-off m _ _ _ x (went (c .before .before .blank .ensures) (c .enum-told .given .1) .is)))  -- returns-2

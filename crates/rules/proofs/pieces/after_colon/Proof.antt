@@ -14,5 +14,5 @@ after-colon-spec =
     (λ c κs. search needs)  -- blank-requires
     (λ c. search needs)  -- enum-known-before
     (λ c. search needs)  -- enum-told
-    (λ c x i. colon-blank _ _ (went (c .before .before .before .blank .ensures) (c .before .before2 .given .1) .is))  -- returns
-    (λ c x i. colon-bare _ _ (went (c .before .before .blank .ensures) (c .enum-told .given .1) .is)))  -- returns-2
+    (λ c m x i. colon-blank m _ _ (went (c .before .before .before .blank .ensures) (c .before .before2 .given .1) .is))  -- returns
+    (λ c m x i. colon-bare m _ _ (went (c .before .before .blank .ensures) (c .enum-told .given .1) .is)))  -- returns-2

@@ -17,7 +17,7 @@ after-item-spec =
     (λ c κs. search needs)  -- comma-requires
     (λ c. search needs)  -- enum-known-comma
     (λ c κs. search needs)  -- listed-requires
-    (λ c. rw (c .listed .ensures) (comma-piece _ _ _ (went (c .before .before .before .before .comma .ensures) (c .before .before .comma2 .given .1) .is)))  -- returns
+    (λ c m. rw (c .listed .ensures) (comma-piece m _ _ _ (went (c .before .before .before .before .comma .ensures) (c .before .before .comma2 .given .1) .is)))  -- returns
     (λ c. search needs)  -- enum-told
     (λ c κs. search needs)  -- colon-sign-requires
     (λ c. search needs)  -- enum-known-colon
@@ -25,7 +25,7 @@ after-item-spec =
     (λ c. search needs)  -- enum-told-2
     (λ c κs. search needs)  -- following-requires
     (λ c κs. search needs)  -- after-blank-requires
-    (λ c. let k = c .before .before in let n = k .before .before .before in
-    wide-piece _ _ _ (no-comma n .is) (went (k .before .before .colon-sign .ensures) (k .colon .given .1) .is) ∙ c .after-colon .ensures _ _)  -- returns-2
-    (λ c. let f = c .before in let e = f .before in let n = e .before .before .before in
-    bare-piece _ _ _ (no-comma n .is) (went (e .before .before .colon-sign .ensures) (e .enum-told2 .given .1) .is) ∙ rw (f .following .ensures) at (c .after-blank .ensures (After (n .before .before .before .before .args .kind)))))  -- returns-3
+    (λ c m. let k = c .before .before in let n = k .before .before .before in
+    wide-piece m _ _ _ (no-comma n .is) (went (k .before .before .colon-sign .ensures) (k .colon .given .1) .is) ∙ c .after-colon .ensures m _ _)  -- returns-2
+    (λ c m. let f = c .before in let e = f .before in let n = e .before .before .before in
+    bare-piece m _ _ _ (no-comma n .is) (went (e .before .before .colon-sign .ensures) (e .enum-told2 .given .1) .is) ∙ rw (f .following .ensures) at (c .after-blank .ensures m (After (n .before .before .before .before .args .kind)))))  -- returns-3

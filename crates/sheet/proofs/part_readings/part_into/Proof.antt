@@ -29,7 +29,7 @@ part-into-spec =
     (tie.spec
     (λ c κs. search needs)  -- part-refusal-requires
     (λ c. let a = c .before .before .before .before .args in let u : Tables = (now (a .words), now (a .bytes)) in
-    ap (λ r. (r, u)) (c .part-refusal .ensures) ∙ part-long u (now (a .sheet)) (a .place) (a .size) (c .before .if1 .taken))  -- returns
+    ap (λ r. (r, u)) (c .part-refusal .ensures) ∙ part-long (a .m) u (now (a .sheet)) (a .place) (a .size) (c .before .if1 .taken))  -- returns
     (λ c κs. search needs)  -- begins-requires
     (λ c κs. search needs)  -- part-end-requires
     (λ c. sym (length-take-le (c .before .part-end .result) (now (c .before .before .before .before .before .before .before .args .sheet)) (stays (c .before))))  -- slice-aggregate-read-text
@@ -41,6 +41,6 @@ part-into-spec =
     (λ c. search needs)  -- same-length-2
     (λ c. let r = c .before .before .before .before in let e = r .before .before .before .before in let a = e .before .before .before .before .before .before .args in
     rw (c .with-next .ensures, e .part-end .ensures)
-    (part-text (now (a .words), now (a .bytes)) (now (a .sheet)) (a .place) (a .size) (e .before .before .before .if1 .left) (here e) (rw (e .part-end .ensures) at (r .read-text .ensures))))  -- returns-2
+    (part-text (a .m) (now (a .words), now (a .bytes)) (now (a .sheet)) (a .place) (a .size) (e .before .before .before .if1 .left) (here e) (rw (e .part-end .ensures) at (r .read-text .ensures))))  -- returns-2
     (λ c. let a = c .before .before .before .before .before .before .args in let u : Tables = (now (a .words), now (a .bytes)) in
-    ap (λ r. (r, u)) (c .part-refusal2 .ensures) ∙ part-nowhere u (now (a .sheet)) (a .place) (a .size) (c .before .before .before .if1 .left) (sym (c .before .before .begins .ensures) ∙ c .before .if2 .left)))  -- returns-3
+    ap (λ r. (r, u)) (c .part-refusal2 .ensures) ∙ part-nowhere (a .m) u (now (a .sheet)) (a .place) (a .size) (c .before .before .before .if1 .left) (sym (c .before .before .begins .ensures) ∙ c .before .if2 .left)))  -- returns-3

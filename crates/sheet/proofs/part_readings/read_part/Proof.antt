@@ -1,20 +1,12 @@
 -- `sheet::read_part` meets its contract.
 use borrow.Author.Needs.{needs}
-use mathlib.Core.List.{[]}
-use denote.Ref.{now}
-use lib.ListN.{length}
-use Rattle.sheet.specs.PartReadings.{partOf, partReading}
-use Rattle.sheet.proofs.Readings.{part-held, into-words}
 use Rattle.sheet.proofs.part_readings.read_part.Statement.{statement}
 use Rattle.sheet.proofs.part_readings.read_part.Tie as tie
 
 pub read-part-spec : {M : Type 1} → statement M
-unfolding partReading
 read-part-spec =
     tie.close
     (tie.spec
-    (λ c. search needs)  -- slice-aggregate-part-into
-    (λ c κs. search needs)  -- part-into-requires
+    (λ c κs. search needs)  -- part-words-requires
     (λ c. search needs)  -- same-length
-    (λ c. let r = c .before .before in let a = r .before .before .before .before .args in let n = (length (now (a .table))) in
-    into-words (now (a .table), []) (partOf (now (a .sheet)) (a .place) n) (part-held (now (a .sheet)) (a .place) n) (r .part-into .ensures)))  -- returns
+    (λ c. c .before .part-words .ensures))  -- returns

@@ -1,22 +1,12 @@
 -- `sheet::read_part_bytes` meets its contract.
 use borrow.Author.Needs.{needs}
-use mathlib.Core.List.{[]}
-use denote.Ref.{now}
-use lib.ListN.{length}
-use Rattle.sheet.specs.Sheets.{wordsIn}
-use Rattle.sheet.specs.PartReadings.{partOf, partReadingBytes}
-use Rattle.sheet.proofs.Readings.{part-held, into-bytes}
 use Rattle.sheet.proofs.part_readings.read_part_bytes.Statement.{statement}
 use Rattle.sheet.proofs.part_readings.read_part_bytes.Tie as tie
 
 pub read-part-bytes-spec : {M : Type 1} → statement M
-unfolding partReadingBytes
 read-part-bytes-spec =
     tie.close
     (tie.spec
-    (λ c. search needs)  -- mul-part-into
-    (λ c. search needs)  -- slice-aggregate-part-into
-    (λ c κs. search needs)  -- part-into-requires
+    (λ c κs. search needs)  -- part-bytes-requires
     (λ c. search needs)  -- same-length
-    (λ c. let r = c .before .before .before in let a = r .before .before .before .before .before .args in let n = (wordsIn (length (now (a .table)))) in
-    into-bytes ([], now (a .table)) (partOf (now (a .sheet)) (a .place) n) (part-held (now (a .sheet)) (a .place) n) (r .part-into .ensures)))  -- returns
+    (λ c. c .before .before .part-bytes .ensures))  -- returns

@@ -28,10 +28,10 @@ use Rattle.sheet.proofs.rule.fill_rule.Statement.{statement}
 use Rattle.sheet.proofs.rule.fill_rule.Tie as tie
 
 abbrev Inv-loop : tie.InvT-loop
-Inv-loop s c separator words₀ bytes₀ slot wide n₀ spot₀ words bytes n spot = Turn (c .at) separator wide slot s (words₀, bytes₀) (spot₀ .stage) (spot₀ .at) (words, bytes) n (spot .stage) (spot .at)
+Inv-loop s m c separator words₀ bytes₀ slot wide n₀ spot₀ words bytes n spot = Turn m (c .at) separator wide slot s (words₀, bytes₀) (spot₀ .stage) (spot₀ .at) (words, bytes) n (spot .stage) (spot .at)
 
 abbrev μ-loop : tie.MeasureT-loop
-μ-loop s c separator words₀ bytes₀ slot wide n₀ spot₀ words bytes n spot = length s - spot .at
+μ-loop s m c separator words₀ bytes₀ slot wide n₀ spot₀ words bytes n spot = length s - spot .at
 
 -- a piece: an item, the rule's end, a refusal
 abbrev item : tie.After-piece2 Inv-loop μ-loop → Said ((Placed × Stage) ⊎ Tail)
@@ -51,20 +51,20 @@ abbrev refused-opening : tie.After-o2 Inv-loop μ-loop → Said Opening
 refused-opening c = said (c .before .before .begin .ensures) (ap seenOpening (c .o2 .given .1))
 
 -- the item is what may stand there
-abbrev more-is : (c : tie.After-piece2 Inv-loop μ-loop) → let l = c .before .before .before in let g = c .piece2 .given .0 in more (l .loop .spot .stage) (now (l .before .before .before .before .before .before .before .before .args .s)) (l .loop .spot .at) ≡ got ((g .0, g .1 .0), After (g .1 .1 .0)) (g .1 .1 .1 .0 .at)
-more-is c = piece-item _ _ _ (item c .is)
+abbrev more-is : (c : tie.After-piece2 Inv-loop μ-loop) → let l = c .before .before .before in let g = c .piece2 .given .0 in more (l .before .before .before .before .before .before .before .before .args .m) (l .loop .spot .stage) (now (l .before .before .before .before .before .before .before .before .args .s)) (l .loop .spot .at) ≡ got ((g .0, g .1 .0), After (g .1 .1 .0)) (g .1 .1 .1 .0 .at)
+more-is c = piece-item _ _ _ _ (item c .is)
 
 -- the whole rule, from what is left at a turn
 whole : (c : tie.At-loop Inv-loop μ-loop) {r : Read (Head × Tables)} → let o = c .before .before .before in let a = o .before .before .before .before .before .args in let g = o .o .given .0 in
-    left (a .c .at) (a .separator) (g .0 .comment) (a .slot) (c .loop .words, c .loop .bytes) (c .loop .n) (c .loop .spot .stage) (now (a .s)) (c .loop .spot .at) ≡ r →
-    ruleInto (now (a .words), now (a .bytes)) (a .slot) (a .separator) (now (a .s)) (a .c .at) ≡ follow (now (a .s)) (g .1 .0 .at) r (λ h. pure (headed (a .c .at) (a .separator) (g .0 .comment) (a .slot) h)) nothing
-whole c e = turn-whole _ _ _ _ _ _ _ _ _ (c .loop .n) (c .loop .spot .stage) (c .loop .spot .at) (opened (c .before .before .before) .is) refl refl (c .loop .inv) e
+    left (a .m) (a .c .at) (a .separator) (g .0 .comment) (a .slot) (c .loop .words, c .loop .bytes) (c .loop .n) (c .loop .spot .stage) (now (a .s)) (c .loop .spot .at) ≡ r →
+    ruleInto (a .m) (now (a .words), now (a .bytes)) (a .slot) (a .separator) (now (a .s)) (a .c .at) ≡ follow (now (a .s)) (g .1 .0 .at) r (λ h. pure (headed (a .m) (a .c .at) (a .separator) (g .0 .comment) (a .slot) h)) nothing
+whole c e = turn-whole _ _ _ _ _ _ _ _ _ _ (c .loop .n) (c .loop .spot .stage) (c .loop .spot .at) (opened (c .before .before .before) .is) refl refl (c .loop .inv) e
 
 -- the rule, where it ends
 ended : (c : tie.At-loop Inv-loop μ-loop) {b : Tail} {k : ℕ} → let o = c .before .before .before in let a = o .before .before .before .before .before .args in let wide = o .o .given .0 .0 .comment in
-    piece (c .loop .spot .stage) (now (a .s)) (c .loop .spot .at) ≡ got (inr b) k →
-    ruleInto (now (a .words), now (a .bytes)) (a .slot) (a .separator) (now (a .s)) (a .c .at) ≡ got (headed (a .c .at) (a .separator) wide (a .slot) (headOf (a .c .at) (a .separator) b wide (c .loop .n), (c .loop .words, c .loop .bytes))) k
-ended c e = whole c (left-end _ _ _ _ _ _ (c .loop .n) (c .loop .spot .stage) (c .loop .spot .at) e)
+    piece (a .m) (c .loop .spot .stage) (now (a .s)) (c .loop .spot .at) ≡ got (inr b) k →
+    ruleInto (a .m) (now (a .words), now (a .bytes)) (a .slot) (a .separator) (now (a .s)) (a .c .at) ≡ got (headed (a .m) (a .c .at) (a .separator) wide (a .slot) (headOf (a .c .at) (a .separator) b wide (c .loop .n), (c .loop .words, c .loop .bytes))) k
+ended c e = whole c (left-end _ _ _ _ _ _ _ (c .loop .n) (c .loop .spot .stage) (c .loop .spot .at) e)
 
 pub fill-rule-spec : {M : Type 1} → statement M
 fill-rule-spec =
@@ -74,24 +74,24 @@ fill-rule-spec =
     μ-loop
     (λ c κs. search needs)  -- begin-requires
     (λ c. search needs)  -- enum-known-o
-    (λ c. turn-begin _ _ _ _ _ _ _ _)  -- loop-holds
+    (λ c. turn-begin _ _ _ _ _ _ _ _ _)  -- loop-holds
     (λ c κs. search needs)  -- piece-requires
     (λ c. search needs)  -- enum-known-piece
-    (λ c. omega (arith, past-one (more-local _) (more-is (c .before)), c .before .before .before .before .loop .inv .low))  -- add-n
+    (λ c. omega (arith, past-one (more-local _ _) (more-is (c .before)), c .before .before .before .before .loop .inv .low))  -- add-n
     (λ c. let m = c .before .before .before in let l = m .before .before .before in let z = l .before .before .before .before .before .before .before .before in
-    omega (arith, past-one (more-local _) (more-is m), l .loop .inv .few, z .pre .0, z .pre .1))  -- add-keep
+    omega (arith, past-one (more-local _ _) (more-is m), l .loop .inv .few, z .pre .0, z .pre .1))  -- add-keep
     (λ c κs. let m = c .before .before .before in let l = m .before .before .before in let z = l .before .before .before .before .before .before .before .before in
-    omega (arith, item-placed _ _ _ (more-is m), z .pre .0))  -- item-words-requires
+    omega (arith, item-placed _ _ _ _ (more-is m), z .pre .0))  -- item-words-requires
     (λ c κs. search needs)  -- keep-requires
-    (λ c. let m = c .before .before .before .before .before .before .before .before in omega (arith, past-one (more-local _) (more-is m)))  -- loop-less
+    (λ c. let m = c .before .before .before .before .before .before .before .before in omega (arith, past-one (more-local _ _) (more-is m)))  -- loop-less
     (λ c. let k = c .before .before .before in let w = k .before in let m = w .before .before .before .before in let l = m .before .before .before in
     rw (k .keep .ensures, w .item-words .ensures)
-    (turn-more _ _ _ _ _ _ _ _ (l .loop .words, l .loop .bytes) (l .loop .n) (l .loop .spot .stage) (l .loop .spot .at) (l .loop .inv) (more-is m)))  -- loop-again
+    (turn-more _ _ _ _ _ _ _ _ _ (l .loop .words, l .loop .bytes) (l .loop .n) (l .loop .spot .stage) (l .loop .spot .at) (l .loop .inv) (more-is m)))  -- loop-again
     (λ c. search needs)  -- enum-known-piece-2
     (λ c κs. search needs)  -- head-of-requires
     (λ c κs. let h = c .before .before in let p = h .before .before in let l = p .before .before .before in let o = l .before .before .before in let z = o .before .before .before .before .before in
-    let q = head-small (z .args .c .at) (z .args .separator) (o .o .given .0 .0 .comment) (p .piece3 .given .0 .0) (now (z .args .s)) (l .loop .n) (l .loop .spot .at) _ (l .loop .spot .stage) (opening-small (now (z .args .s)) (z .args .c .at) (opened o .is)) (end p .is) in
-    rw (h .head-of .ensures) (omega (arith, q .0, z .pre .0), omega (arith, q .1, z .pre .0), omega (arith, l .loop .inv .few, z .pre .0), omega (arith, head-placed _ _ _ _ _ (ended l (end p .is)), z .pre .0)))  -- head-words-requires
+    let q = head-small (z .args .m) (z .args .c .at) (z .args .separator) (o .o .given .0 .0 .comment) (p .piece3 .given .0 .0) (now (z .args .s)) (l .loop .n) (l .loop .spot .at) _ (l .loop .spot .stage) (opening-small (now (z .args .s)) (z .args .c .at) (opened o .is)) (end p .is) in
+    rw (h .head-of .ensures) (omega (arith, q .0, z .pre .0), omega (arith, q .1, z .pre .0), omega (arith, l .loop .inv .few, z .pre .0), omega (arith, head-placed _ _ _ _ _ _ (ended l (end p .is)), z .pre .0)))  -- head-words-requires
     (λ c κs. search needs)  -- keep-requires-2
     (λ c. let w = c .before .before in w .words2 .given ∙ w .before .before .before .before .before .before .before .before .before .before .loop .inv .words)  -- same-length
     (λ c. let w = c .before in w .bytes2 .given ∙ w .before .before .before .before .before .before .before .before .before .before .before .loop .inv .bytes)  -- same-length-2
@@ -100,6 +100,6 @@ fill-rule-spec =
     (λ c. search needs)  -- enum-known-piece-3
     (λ c. c .before .before .before .before .loop .inv .words)  -- same-length-3
     (λ c. c .before .before .before .before .loop .inv .bytes)  -- same-length-4
-    (λ c. let l = c .before .before .before .before in whole l (left-refused _ _ _ _ _ _ (l .loop .n) (l .loop .spot .stage) (l .loop .spot .at) (refusal (c .before) .is)))  -- returns-2
+    (λ c. let l = c .before .before .before .before in whole l (left-refused _ _ _ _ _ _ _ (l .loop .n) (l .loop .spot .stage) (l .loop .spot .at) (refusal (c .before) .is)))  -- returns-2
     (λ c. search needs)  -- enum-known-o-2
-    (λ c. opening-refused _ _ _ _ _ (refused-opening (c .before) .is)))  -- returns-3
+    (λ c. opening-refused _ _ _ _ _ _ (refused-opening (c .before) .is)))  -- returns-3

@@ -1,21 +1,12 @@
 -- `sheet::read_sheet_bytes` meets its contract.
 use borrow.Author.Needs.{needs}
-use mathlib.Core.List.{[]}
-use denote.Ref.{now}
-use lib.ListN.{length}
-use Rattle.sheet.specs.Sheets.{sheetOf, sheetReadingBytes, wordsIn}
-use Rattle.sheet.proofs.Readings.{sheet-held, into-bytes}
 use Rattle.sheet.proofs.sheets.read_sheet_bytes.Statement.{statement}
 use Rattle.sheet.proofs.sheets.read_sheet_bytes.Tie as tie
 
 pub read-sheet-bytes-spec : {M : Type 1} → statement M
-unfolding sheetReadingBytes
 read-sheet-bytes-spec =
     tie.close
     (tie.spec
-    (λ c. search needs)  -- mul-sheet-into
-    (λ c. search needs)  -- slice-aggregate-sheet-into
-    (λ c κs. search needs)  -- sheet-into-requires
+    (λ c κs. search needs)  -- sheet-bytes-requires
     (λ c. search needs)  -- same-length
-    (λ c. let r = c .before .before .before in let a = r .before .before .before .before .before .args in let n = (wordsIn (length (now (a .table)))) in
-    into-bytes ([], now (a .table)) (sheetOf (now (a .sheet)) n) (sheet-held (now (a .sheet)) n) (r .sheet-into .ensures)))  -- returns
+    (λ c. c .before .before .sheet-bytes .ensures))  -- returns

@@ -17,10 +17,10 @@ use Rattle.sheet.proofs.texts.fill_rules.Statement.{statement}
 use Rattle.sheet.proofs.texts.fill_rules.Tie as tie
 
 abbrev Inv-loop : tie.InvT-loop
-Inv-loop s p words₀ bytes₀ slot₀ at₀ separator₀ words bytes slot at separator = Filling s p (words₀, bytes₀) (words, bytes) slot at separator
+Inv-loop s m p words₀ bytes₀ slot₀ at₀ separator₀ words bytes slot at separator = Filling m s p (words₀, bytes₀) (words, bytes) slot at separator
 
 abbrev μ-loop : tie.MeasureT-loop
-μ-loop s p words₀ bytes₀ slot₀ at₀ separator₀ words bytes slot at separator = length s - at
+μ-loop s m p words₀ bytes₀ slot₀ at₀ separator₀ words bytes slot at separator = length s - at
 
 -- the loop's turn in which a rule was read
 abbrev loop : tie.After-parted Inv-loop μ-loop → tie.At-loop Inv-loop μ-loop
@@ -31,23 +31,23 @@ abbrev tables : tie.After-parted Inv-loop μ-loop → Tables
 tables c = (loop c .loop .words, loop c .loop .bytes)
 
 abbrev after : tie.After-parted Inv-loop μ-loop → Tables
-after c = let f = c .before .before .before .before in (f .fill-rule .last .1 .1 .1 .0, f .fill-rule .last .1 .1 .1 .1 .0)
+after c = let f = c .before .before .before .before in (f .fill-rule .last .1 .1 .1 .1 .0, f .fill-rule .last .1 .1 .1 .1 .1 .0)
 
 -- what a turn reads, as the code reads it
 abbrev Reads : tie.After-parted Inv-loop μ-loop → Parted → Type 0
 Reads c x = let l = loop c in let s = now (l .before .before .before .args .s) in
-    map (first (kept (tables c) (l .loop .slot))) (moreRules (Another (l .loop .separator))) s (l .loop .at) ≡ follow s (l .loop .at) (seenParted x) (λ y. pure (first (λ n. (n, after c)) y)) nothing
+    map (first (kept (tables c) (l .loop .slot))) (moreRules (l .before .before .before .args .m) (Another (l .loop .separator))) s (l .loop .at) ≡ follow s (l .loop .at) (seenParted x) (λ y. pure (first (λ n. (n, after c)) y)) nothing
 
 reads : (c : tie.After-parted Inv-loop μ-loop) {x : Parted} → c .parted .result ≡ x → Reads c x
 reads c e = let f = c .before .before .before .before in
-    subst (Reads c) e (step (tables c) (after c) _ _ _ _ (f .fill-rule .result) (f .before .before .before .blanks .ensures) (f .fill-rule .ensures) (c .parted .ensures))
+    subst (Reads c) e (step _ (tables c) (after c) _ _ _ _ (f .fill-rule .result) (f .before .before .before .blanks .ensures) (f .fill-rule .ensures) (c .parted .ensures))
 
 -- a rule, and what follows it
 abbrev Turn : tie.After-r Inv-loop μ-loop → Next → Type 0
-Turn c n = let p = c .before .before in let l = loop p in let g = c .r .given .0 in Turned (tables p) (after p) (l .loop .slot) (l .loop .separator) (now (l .before .before .before .args .s)) (l .loop .at) (g .0) n (g .1 .1 .0 .at)
+Turn c n = let p = c .before .before in let l = loop p in let g = c .r .given .0 in Turned (l .before .before .before .args .m) (tables p) (after p) (l .loop .slot) (l .loop .separator) (now (l .before .before .before .args .s)) (l .loop .at) (g .0) n (g .1 .1 .0 .at)
 
 turn : (c : tie.After-r Inv-loop μ-loop) {n : Next} → c .r .given .0 .1 .0 ≡ n → Turn c n
-turn c e = subst (Turn c) e (turned _ _ _ _ _ _ (reads (c .before .before) (c .r .given .1)))
+turn c e = subst (Turn c) e (turned _ _ _ _ _ _ _ (reads (c .before .before) (c .r .given .1)))
 
 pub fill-rules-spec : {M : Type 1} → statement M
 fill-rules-spec =
@@ -55,7 +55,7 @@ fill-rules-spec =
     (tie.spec
     Inv-loop
     μ-loop
-    (λ c. filling-begin _ _ _)  -- loop-holds
+    (λ c. filling-begin _ _ _ _)  -- loop-holds
     (λ c κs. search needs)  -- blanks-requires
     (λ c κs. let l = c .before .before .before in (l .before .before .before .pre, l .loop .inv .few))  -- fill-rule-requires
     (λ c κs. search needs)  -- parted-requires
@@ -67,12 +67,12 @@ fill-rules-spec =
     (λ c. let p = c .before .before .before .before .before in p .before .before .before .words .given ∙ loop p .loop .inv .words)  -- same-length
     (λ c. let p = c .before .before .before .before .before in p .before .before .bytes .given ∙ loop p .loop .inv .bytes)  -- same-length-2
     (λ c. let r = c .before .before .before in let p = r .before .before in let l = loop p in
-    filling-end _ _ _ (tables p) (after p) (l .loop .slot) (l .loop .at) (l .loop .separator) (l .loop .inv) (turn r (c .enum-told .given .1)))  -- returns
+    filling-end _ _ _ _ (tables p) (after p) (l .loop .slot) (l .loop .at) (l .loop .separator) (l .loop .inv) (turn r (c .enum-told .given .1)))  -- returns
     (λ c. let b = c .before in let r = b .before .before .before in let t = turn r (b .behind .given .1) in omega (arith, t .later, t .stays))  -- loop-less
     (λ c. let b = c .before in let r = b .before .before .before in let p = r .before .before in let l = loop p in
-    filling-more _ _ _ (tables p) (after p) (l .loop .slot) (l .loop .at) (l .loop .separator) (l .loop .inv) (l .before .before .before .pre) (p .before .before .before .words .given) (p .before .before .bytes .given) (turn r (b .behind .given .1)))  -- loop-again
+    filling-more _ _ _ _ (tables p) (after p) (l .loop .slot) (l .loop .at) (l .loop .separator) (l .loop .inv) (l .before .before .before .pre) (p .before .before .before .words .given) (p .before .before .bytes .given) (turn r (b .behind .given .1)))  -- loop-again
     (λ c. search needs)  -- enum-known-r-2
     (λ c. let p = c .before .before .before in p .before .before .before .words .given ∙ loop p .loop .inv .words)  -- same-length-3
     (λ c. let p = c .before .before .before in p .before .before .bytes .given ∙ loop p .loop .inv .bytes)  -- same-length-4
     (λ c. let p = c .before .before .before in let l = loop p in
-    filling-refused _ _ _ (tables p) (after p) (l .loop .slot) (l .loop .at) (l .loop .separator) (l .loop .inv) (reads p (c .before .r2 .given .1))))  -- returns-2
+    filling-refused _ _ _ _ (tables p) (after p) (l .loop .slot) (l .loop .at) (l .loop .separator) (l .loop .inv) (reads p (c .before .r2 .given .1))))  -- returns-2

@@ -24,4 +24,4 @@ time-item-spec =
     (λ c. search needs)  -- enum-told
     (λ c. let v = said (c .before .before .raw-time .ensures) (ap seenTime (c .enum-told .given .1)) in rw (v .is))  -- returns
     (λ c κs. search needs)  -- span-item-behind-requires
-    (λ c. item-behind rawTime spanBehind spanMeaning (first (c .before .before) .is) ∙ c .span-item-behind .ensures))  -- returns-2
+    (λ c. item-behind rawTime spanBehind (spanMeaning _) (first (c .before .before) .is) ∙ c .span-item-behind .ensures))  -- returns-2

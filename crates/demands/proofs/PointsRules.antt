@@ -1,0 +1,332 @@
+-- In edition 2 the number 8 is never given (specs/Editions.antt): dates, items, rules and sheets.
+use Prim.Native.Nat.{ℕ, _/_}
+use mathlib.Core.Bool.{Bool, true, false, _||_, not}
+use mathlib.Core.List.{List, [], _∷_}
+use mathlib.Core.Path.{_≡_, sym, _∙_}
+use native.Mathlib.Omega.{arith}
+use lib.Dec.{eqb, ltb}
+use lib.IntN.{ℤ}
+use lib.ListN.{length, getD, take}
+use Rattle.names.specs.Tests.{if_then_else_}
+use Rattle.names.specs.Read.{Read, got, none, refused, Reader}
+use Rattle.names.specs.Texts.{bytes}
+use Rattle.names.specs.Refusals.{noShape, brokenQuote}
+use Rattle.names.specs.Names.{Word, weekday, month, easter, week}
+use Rattle.names.specs.Names as names
+use Rattle.names.specs.declared.Manner.the-variants.{Second}
+use Rattle.records.specs.declared.Item.{Item}
+use Rattle.records.specs.declared.Day.{Day}
+use Rattle.records.specs.declared.Day.the-variants.{Fixed, Weekday, Easter}
+use Rattle.records.specs.declared.Date.{Date}
+use Rattle.records.specs.declared.DateOffset.{DateOffset}
+use Rattle.dates.specs.Dates.{optionalYear, backNth, frontNth, nth, weekdayOf, dayOf, dayBehind, rawDate, date}
+use Rattle.dates.specs.Ends.{untilDate, bareDay, until, endShape, datesBehind}
+use Rattle.dates.specs.Meanings.{goodYears, goodDates, dated, offsetOf, bare, ended, dateMeaning, monthMeaning}
+use Rattle.dates.specs.MonthDays.{lastMonth, monthBehind, monthItemBehind, dateItemBehind, monthDayBehind, monthDayItem}
+use Rattle.dates.specs.Ranges.{stepped, untilLast, goodRange}
+use Rattle.dates.specs.Weeks.{weekShape, weekMeaning, weekItem}
+use Rattle.dates.specs.Years.{yearBehind, yearShape, yearMeaning, yearItem}
+use Rattle.dates.specs.declared.Year.{Year}
+use Rattle.dates.specs.declared.RawDate.{RawDate}
+use Rattle.dates.specs.declared.RawMonths.{RawMonths}
+use Rattle.dates.specs.declared.RawEnd.{RawEnd}
+use Rattle.dates.specs.declared.RawEnd.the-variants.{Nothing, Plus, Until, Bare}
+use Rattle.dates.specs.declared.RawDates.{RawDates}
+use Rattle.dates.specs.declared.RawRange.{RawRange}
+use Rattle.items.specs.Musts.{atBrokenQuote, missingAt, missing, must}
+use Rattle.items.specs.Kinds.{apart, at, weeks, itemOf, itemIn}
+use Rattle.items.specs.declared.Kind.{Kind}
+use Rattle.items.specs.declared.Kind.the-variants.{Years, MonthDays, Weeks, WeekNumbers, Weekdays, LastWeekdays, Holidays, LastHolidays, Times}
+use Rattle.utf8.specs.Utf8.{octet, utf8-tail, utf8-2, utf8-3, utf8-4, longer}
+use Rattle.utf8.specs.Letters.{isInner, isPlain, plain, letter, letters}
+use Rattle.rules.specs.Comments.{noComment, closed, illFormed, comment, commentApart}
+use Rattle.rules.specs.Modifiers.{withComment, modifier}
+use Rattle.rules.specs.Rows.{small, first, listed, following, isWide}
+use Rattle.rules.specs.Pieces.{empty, itemFrom, goesOn, afterColon, colonSign, colon, more, plainEnd, end}
+use Rattle.rules.specs.Rules.{always, wideComment, opening, ruleOf, behind, rule}
+use Rattle.rules.specs.Rules as rule-specs
+use Rattle.rules.specs.Separators.{commaBlank, bars, separator, next, stop, ruleEnd}
+use Rattle.rules.specs.declared.Next.{Next}
+use Rattle.rules.specs.declared.Next.the-variants.{Another, Finished}
+use Rattle.rules.specs.declared.Stage.{Stage}
+use Rattle.rules.specs.declared.Stage.the-variants.{Beginning, Always, Colon, After}
+use Rattle.sheet.specs.Texts.{parted, moreRules, noMore, rules, records}
+use Rattle.sheet.specs.Sheets.{refusal, judgedText, textOf, sheetBy}
+use Rattle.sheet.specs.Parts.{begins, partEnd}
+use Rattle.sheet.specs.PartReadings.{partTo, partRefusal, partBy}
+use Rattle.sheet.specs.declared.Answer.{Answer}
+use Rattle.sheet.specs.declared.PartAnswer.{PartAnswer}
+use Rattle.demands.specs.Editions.{SheetNever8, PartNever8}
+use Rattle.demands.proofs.Numbers.{either, next-same}
+use Rattle.demands.proofs.Points.{Other, Tells, nothing-tells, pure-tells, here-tells, refuse-tells, branch-tells, then-tells, or-tells, map-tells, if-tells, chain-tells, many-tells, only-tells, one-tells, ahead-tells, atEnd-tells, skip-tells, byte-tells, allOf-tells, blanks-tells, blank-tells, comma-tells, number-tells, word-tells, name-tells, OtherMeant, other-if, meant-tells, item-tells, timeItem-tells, offset-tells, weekdayItem-tells, holidayItem-tells}
+
+-- ---- dates
+
+stepped-tells : Tells stepped
+unfolding stepped
+stepped-tells = or-tells (then-tells (byte-tells 47) (λ _. number-tells 1 5)) (pure-tells 1)
+
+untilLast-tells : {m : Reader ℕ} → Tells m → (first : ℕ) → Tells (untilLast m first)
+unfolding untilLast
+untilLast-tells M first = then-tells (byte-tells 45) (λ _. then-tells M (λ last. then-tells stepped-tells (λ step. pure-tells _)))
+
+yearBehind-tells : (first : ℕ) → Tells (yearBehind first)
+unfolding yearBehind
+yearBehind-tells first = or-tells (then-tells (byte-tells 43) (λ _. pure-tells _)) (or-tells (untilLast-tells (number-tells 4 4) first) (pure-tells _))
+
+yearShape-tells : Tells yearShape
+unfolding yearShape
+yearShape-tells = then-tells (number-tells 4 4) yearBehind-tells
+
+weekShape-tells : Tells weekShape
+unfolding weekShape
+weekShape-tells = then-tells (number-tells 1 2) (λ first. or-tells (untilLast-tells (number-tells 1 2) first) (pure-tells _))
+
+optionalYear-tells : Tells optionalYear
+unfolding optionalYear
+optionalYear-tells = or-tells (then-tells (number-tells 4 4) (λ y. then-tells blank-tells (λ _. pure-tells _))) (pure-tells _)
+
+nth-tells : Tells nth
+unfolding nth backNth frontNth
+nth-tells = or-tells (then-tells (byte-tells 45) (λ _. then-tells (number-tells 1 1) (λ n. pure-tells _))) (then-tells (number-tells 1 1) (λ n. pure-tells _))
+
+weekdayOf-tells : (m : ℕ) → Tells (weekdayOf m)
+unfolding weekdayOf
+weekdayOf-tells m = then-tells (name-tells weekday) (λ w. then-tells (byte-tells 91) (λ _. then-tells nth-tells (λ n. then-tells (byte-tells 93) (λ _. pure-tells _))))
+
+dayOf-tells : (m : ℕ) → Tells (dayOf m)
+unfolding dayOf
+dayOf-tells m = then-tells blank-tells (λ _. or-tells (then-tells (number-tells 1 2) (λ d. pure-tells _)) (weekdayOf-tells m))
+
+dayBehind-tells : (w : Word) → Tells (dayBehind w)
+unfolding dayBehind
+dayBehind-tells w = if-tells (eqb (w .0) easter) (pure-tells Easter) (if-tells (eqb (w .0) month) (dayOf-tells (w .1)) nothing-tells)
+
+date-tells : Tells date
+unfolding date
+date-tells = then-tells optionalYear-tells (λ y. then-tells word-tells (λ w. then-tells (dayBehind-tells w) (λ d. pure-tells _)))
+
+until-tells : Tells until
+unfolding until untilDate bareDay
+until-tells = or-tells (then-tells date-tells (λ d. then-tells offset-tells (λ o. pure-tells _))) (then-tells (number-tells 1 2) (λ d. then-tells offset-tells (λ o. pure-tells _)))
+
+endShape-tells : Tells endShape
+unfolding endShape
+endShape-tells = or-tells (then-tells (byte-tells 43) (λ _. pure-tells _)) (or-tells (then-tells (byte-tells 45) (λ _. until-tells)) (pure-tells _))
+
+datesBehind-tells : (d : RawDate) → Tells (datesBehind d)
+unfolding datesBehind
+datesBehind-tells d = then-tells offset-tells (λ o. then-tells endShape-tells (λ e. pure-tells _))
+
+monthBehind-tells : (y : Year) (first : ℕ) → Tells (monthBehind y first)
+unfolding monthBehind lastMonth
+monthBehind-tells y first = then-tells (or-tells (then-tells (byte-tells 45) (λ _. name-tells month)) (pure-tells first)) (λ last. pure-tells _)
+
+year-other : (r : RawRange) → OtherMeant (yearMeaning r)
+unfolding yearMeaning
+year-other r = other-if (not (goodRange 1900 9999 r)) _ _ (λ e. omega arith) (other-if (ltb r.last r.first) _ _ (λ e. omega arith) tt)
+
+week-other : (r : RawRange) → OtherMeant (weekMeaning r)
+unfolding weekMeaning
+week-other r = other-if (not (goodRange 1 53 r)) _ _ (λ e. omega arith) (other-if (ltb 255 r.step) _ _ (λ e. omega arith) (other-if (ltb r.last r.first) _ _ (λ e. omega arith) tt))
+
+bare-other : (s : Date) (o : DateOffset) (e : ℕ) (p : DateOffset) (d : Day) → OtherMeant (bare s o e p d)
+bare-other s o e p (Fixed m d) = tt
+bare-other s o e p (Weekday m w n) = tt
+bare-other s o e p Easter = λ q. omega arith
+
+ended-other : (s : Date) (o : DateOffset) (e : RawEnd) → OtherMeant (ended s o e)
+ended-other s o Nothing = tt
+ended-other s o Plus = tt
+ended-other s o (Until e p) = tt
+ended-other s o (Bare e p) = bare-other s o e (offsetOf p) (s .day)
+
+date-other : (r : RawDates) → OtherMeant (dateMeaning r)
+unfolding dateMeaning
+date-other r = other-if (not (goodDates r)) _ _ (λ e. omega arith) (ended-other (dated (r .date)) (offsetOf (r .offset)) (r .end))
+
+month-other : (r : RawMonths) → OtherMeant (monthMeaning r)
+unfolding monthMeaning
+month-other r = other-if (not (goodYears (r .year))) _ _ (λ e. omega arith) tt
+
+yearItem-tells : Tells yearItem
+unfolding yearItem
+yearItem-tells = item-tells yearShape-tells yearMeaning year-other
+
+weekItem-tells : Tells weekItem
+unfolding weekItem
+weekItem-tells = item-tells weekShape-tells weekMeaning week-other
+
+monthDayItem-tells : Tells monthDayItem
+unfolding monthDayItem monthDayBehind dateItemBehind monthItemBehind
+monthDayItem-tells =
+    then-tells here-tells (λ p. then-tells optionalYear-tells (λ y. then-tells word-tells (λ w.
+    branch-tells (dayBehind-tells w) (λ d. meant-tells (datesBehind-tells (rawDate y d)) dateMeaning date-other p)
+    (then-tells (only-tells (eqb (w .0) month)) (λ _. meant-tells (monthBehind-tells y (w .1)) monthMeaning month-other p)))))
+
+-- ---- items
+
+lack : (s : List ℕ) (p : ℕ) → missingAt s p ≡ 8 → ⊥
+unfolding missingAt
+lack s p = go (atBrokenQuote s p)
+  where
+    go : (b : Bool) → (if b then brokenQuote else noShape) ≡ 8 → ⊥
+    go true e = omega arith
+    go false e = omega arith
+
+missing-tells : {A : Type 0} → Tells {A = A} missing
+unfolding missing
+missing-tells = then-tells blanks-tells (λ _. record { tells = λ s p. lack s p })
+
+must-tells : {A : Type 0} {m : Reader A} → Tells m → Tells (must m)
+must-tells M = or-tells M missing-tells
+
+apart-tells : {A : Type 0} {m : Reader A} → Tells m → Tells (apart m)
+apart-tells M = then-tells blank-tells (λ _. M)
+
+at-tells : {m : Reader Item} → Tells m → Tells (at m)
+at-tells M = then-tells here-tells (λ p. then-tells M (λ a. pure-tells (a, p)))
+
+itemOf-tells : (k : Kind) → Tells (itemOf Second k)
+unfolding itemOf weeks
+itemOf-tells Years = at-tells yearItem-tells
+itemOf-tells MonthDays = at-tells monthDayItem-tells
+itemOf-tells Weeks = then-tells (name-tells week) (λ _. must-tells (apart-tells (at-tells weekItem-tells)))
+itemOf-tells WeekNumbers = at-tells weekItem-tells
+itemOf-tells Weekdays = at-tells weekdayItem-tells
+itemOf-tells LastWeekdays = at-tells weekdayItem-tells
+itemOf-tells Holidays = at-tells holidayItem-tells
+itemOf-tells LastHolidays = at-tells holidayItem-tells
+itemOf-tells Times = at-tells timeItem-tells
+
+itemIn-tells : (ks : List Kind) → Tells (itemIn Second ks)
+unfolding itemIn
+itemIn-tells [] = nothing-tells
+itemIn-tells (k ∷ ks) = branch-tells (itemOf-tells k) (λ a. pure-tells (a, k)) (itemIn-tells ks)
+
+-- ---- comments and modifiers
+
+octet-tells : (lo hi : ℕ) → Tells (octet lo hi)
+unfolding octet
+octet-tells lo hi = map-tells (λ _. tt) (one-tells _)
+
+tail-tells : Tells utf8-tail
+unfolding utf8-tail
+tail-tells = octet-tells 0x80 0xBF
+
+longer-tells : Tells longer
+unfolding longer utf8-2 utf8-3 utf8-4
+longer-tells =
+    or-tells (then-tells (octet-tells _ _) (λ _. tail-tells))
+    (or-tells
+    (or-tells (then-tells (octet-tells _ _) (λ _. then-tells (octet-tells _ _) (λ _. tail-tells)))
+    (or-tells (then-tells (octet-tells _ _) (λ _. then-tells tail-tells (λ _. tail-tells)))
+    (or-tells (then-tells (octet-tells _ _) (λ _. then-tells (octet-tells _ _) (λ _. tail-tells))) (then-tells (octet-tells _ _) (λ _. then-tells tail-tells (λ _. tail-tells))))))
+    (or-tells (then-tells (octet-tells _ _) (λ _. then-tells (octet-tells _ _) (λ _. then-tells tail-tells (λ _. tail-tells))))
+    (or-tells (then-tells (octet-tells _ _) (λ _. then-tells tail-tells (λ _. then-tells tail-tells (λ _. tail-tells)))) (then-tells (octet-tells _ _) (λ _. then-tells (octet-tells _ _) (λ _. then-tells tail-tells (λ _. tail-tells)))))))
+
+letters-tells : Tells letters
+unfolding letters letter plain
+letters-tells = map-tells (λ _. tt) (many-tells (or-tells (map-tells (λ _. tt) (one-tells isPlain)) longer-tells))
+
+comment-tells : Tells comment
+unfolding comment closed illFormed
+comment-tells =
+    then-tells here-tells (λ p. then-tells (byte-tells 34) (λ _. then-tells here-tells (λ start. then-tells letters-tells (λ _.
+    or-tells (then-tells here-tells (λ end. then-tells (byte-tells 34) (λ _. then-tells (only-tells (ltb start end)) (λ _. pure-tells _))))
+    (then-tells (one-tells isInner) (λ _. then-tells (skip-tells isInner) (λ _. then-tells (byte-tells 34) (λ _. refuse-tells 13 p (λ e. omega arith)))))))))
+
+modifier-tells : Tells modifier
+unfolding modifier withComment commentApart
+modifier-tells = or-tells (then-tells (name-tells names.modifier) (λ state. then-tells (or-tells (then-tells blank-tells (λ _. comment-tells)) (pure-tells noComment)) (λ c. pure-tells _))) (then-tells comment-tells (λ c. pure-tells _))
+
+-- ---- rules
+
+commaBlank-tells : Tells commaBlank
+unfolding commaBlank
+commaBlank-tells = then-tells (byte-tells 44) (λ _. ahead-tells (eqb 32))
+
+bars-tells : Tells bars
+unfolding bars
+bars-tells = then-tells (byte-tells 124) (λ _. byte-tells 124)
+
+stop-tells : Tells stop
+unfolding stop
+stop-tells = record { tells = λ s i. only-tells (eqb i (length s) || eqb 59 (getD s i 0)) .tells s i }
+
+next-tells : Tells next
+unfolding next separator
+next-tells =
+    or-tells (then-tells atEnd-tells (λ _. pure-tells Finished))
+    (or-tells (then-tells (byte-tells 59) (λ _. pure-tells (Another 0))) (or-tells (then-tells commaBlank-tells (λ _. pure-tells (Another 1))) (then-tells bars-tells (λ _. pure-tells (Another 2)))))
+
+itemFrom-tells : (ks : List Kind) → Tells (itemFrom Second ks)
+itemFrom-tells ks = map-tells (λ a. (a .0, After (a .1))) (itemIn-tells ks)
+
+afterColon-tells : Tells (afterColon Second)
+afterColon-tells = must-tells (apart-tells (itemFrom-tells small))
+
+more-tells : (x : Stage) → Tells (more Second x)
+unfolding more goesOn colon colonSign
+more-tells Beginning = itemFrom-tells first
+more-tells Always = nothing-tells
+more-tells Colon = afterColon-tells
+more-tells (After k) =
+    or-tells (then-tells comma-tells (λ _. must-tells (itemFrom-tells (listed k))))
+    (or-tells (then-tells (then-tells (only-tells (isWide k)) (λ _. byte-tells 58)) (λ _. afterColon-tells)) (apart-tells (itemFrom-tells (following k))))
+
+empty-tells : Tells empty
+unfolding empty ruleEnd
+empty-tells = then-tells here-tells (λ p. then-tells (or-tells stop-tells (or-tells commaBlank-tells bars-tells)) (λ _. refuse-tells 11 p (λ e. omega arith)))
+
+end-tells : (x : Stage) → Tells (end x)
+unfolding end plainEnd
+end-tells Beginning = or-tells modifier-tells (or-tells empty-tells missing-tells)
+end-tells Always = or-tells (apart-tells modifier-tells) (pure-tells _)
+end-tells Colon = or-tells (apart-tells modifier-tells) (pure-tells _)
+end-tells (After k) = or-tells (apart-tells modifier-tells) (pure-tells _)
+
+opening-tells : Tells opening
+unfolding opening always wideComment
+opening-tells = or-tells (then-tells (allOf-tells (λ b. b) (bytes "24/7")) (λ _. pure-tells _)) (or-tells (then-tells comment-tells (λ c. then-tells (byte-tells 58) (λ _. pure-tells _))) (pure-tells _))
+
+rule-tells : (separator : ℕ) → Tells (rule Second separator)
+unfolding rule behind
+rule-tells separator = then-tells here-tells (λ p. then-tells opening-tells (λ o. map-tells (ruleOf p separator (o .comment)) (chain-tells more-tells end-tells (o .stage))))
+
+-- ---- sheets
+
+moreRules-tells : (x : Next) → Tells (moreRules Second x)
+unfolding moreRules parted
+moreRules-tells (Another separator) = then-tells blanks-tells (λ _. then-tells (rule-tells separator) (λ r. then-tells blanks-tells (λ _. then-tells (must-tells next-tells) (λ n. pure-tells (r, n)))))
+moreRules-tells Finished = nothing-tells
+
+noMore-tells : (x : Next) → Tells (noMore x)
+unfolding noMore
+noMore-tells (Another separator) = nothing-tells
+noMore-tells Finished = pure-tells tt
+
+rules-tells : Tells (rules Second)
+unfolding rules
+rules-tells = chain-tells moreRules-tells noMore-tells (Another 0)
+
+text-never : (s : List ℕ) (p n : ℕ) → textOf Second s p n .0 .number ≡ 8 → ⊥
+unfolding textOf
+text-never s p n = go (rules Second s p) (rules-tells .tells s p)
+  where
+    go : (r : Read (List rule-specs.Rule × Unit {0})) → Other r → judgedText s p n r .0 .number ≡ 8 → ⊥
+    go (got l j) h = either (λ (x : Answer × List (List ℤ)). x .0 .number ≡ 8 → ⊥) (ltb (n / 16) (length (records (l .0)))) (refusal 10 p) _ (λ e. omega arith) (λ e. omega arith)
+    go none h = λ e. omega arith
+    go (refused k q) h = h
+
+pub sheet-never : SheetNever8
+unfolding sheetBy
+sheet-never s n = either (λ (x : Answer × List (List ℤ)). x .0 .number ≡ 8 → ⊥) (ltb 4096 (length s)) (refusal 1 0) (textOf Second s 0 n) (λ e. omega arith) (text-never s 0 n)
+
+pub part-never : PartNever8
+unfolding partBy
+part-never s p n =
+    let k = partEnd s p in
+    let P : PartAnswer × List (List ℤ) → Type 0 = λ x. x .0 .number ≡ 8 → ⊥ in
+    either P (ltb 4096 (length s)) (partRefusal 1) (if not (begins s p) then partRefusal 2 else partTo Second s p n k) (λ e. omega arith)
+    (either P (not (begins s p)) (partRefusal 2) (partTo Second s p n k) (λ e. omega arith) (λ e. text-never (take k s) p n (sym (next-same s k (textOf Second (take k s) p n .0)) ∙ e)))
