@@ -20,6 +20,7 @@ pub mod Feeds
 pub mod FeedBytes
 pub mod ProvedFeeds
 pub mod Within
+pub mod Before
 pub mod Wider
 pub mod WiderRules
 pub mod Editions

@@ -7,4 +7,5 @@ pub mod ByC
 pub mod Bytes
 pub mod Feeds
 pub mod Within
+pub mod Before
 pub mod Editions

@@ -57,6 +57,6 @@ illFormedComment = 13
 abbrev pub unknownEdition : ℕ
 unknownEdition = 19
 
--- the greatest
+-- the greatest that a reading gives: 19 is given before anything is read
 abbrev pub greatest : ℕ
-greatest = unknownEdition
+greatest = illFormedComment

@@ -1,0 +1,3 @@
+pub mod Spans
+pub mod Breaks
+pub mod Profile

@@ -1,0 +1,15 @@
+// The house profile, a judgement over the rules that were read: only `;` between rules; only clock times, up to 24:00, without repeat or open end; and within a rule spans in rising order, each end after its start and no two overlapping.
+mod breaks;
+mod spans;
+
+// The first break of these, by its number and place, or nowhere.
+pub enum Break {
+    Nowhere,
+    At(u8, usize),
+}
+
+// What is known after some rules and items: the first break, and where the spans of the last rule end.
+pub struct House {
+    pub first: Break,
+    pub end: u16,
+}
