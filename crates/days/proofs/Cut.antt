@@ -7,7 +7,7 @@ use native.Mathlib.Omega.{arith}
 use lib.Dec.{eqb}
 use Rattle.names.specs.Names.{weekday, holiday, day}
 use Rattle.names.specs.declared.Manner.{Manner}
-use Rattle.names.specs.declared.Manner.the-variants.{First, Second}
+use Rattle.names.specs.declared.Manner.the-variants.{First, Second, House}
 use Rattle.names.proofs.Local.{free, pure-local, then-local, or-local, maybe-local}
 use Rattle.names.proofs.Cut.{byte-local, blank-local, count-local, ordinal-local}
 use Rattle.names.proofs.Chains.{many-local}
@@ -84,9 +84,14 @@ module _ {u : List ℕ} where
   unfolding withEntries
   withEntries-alike first = then-local bracketed-alike (λ m. then-local anyDays-alike (λ d. pure-local _))
 
+  narrowBehind-alike : (first : ℕ) → Alike u 0 (narrowBehind first)
+  unfolding narrowBehind
+  narrowBehind-alike first = or-local (free (untilWeekday-alike first)) (or-local (free (withEntries-alike first)) (pure-local _))
+
   pub weekdayBehind-alike : (m : Manner) (first : ℕ) → Alike u 0 (weekdayBehind m first)
-  unfolding narrowBehind wideBehind
-  weekdayBehind-alike First first = or-local (free (untilWeekday-alike first)) (or-local (free (withEntries-alike first)) (pure-local _))
+  unfolding wideBehind
+  weekdayBehind-alike First first = narrowBehind-alike first
+  weekdayBehind-alike House first = narrowBehind-alike first
   weekdayBehind-alike Second first = then-local (maybe-local lastWeekday-alike first) (λ last. then-local (maybe-local bracketed-alike noMarks) (λ m. then-local anyDays-alike (λ d. pure-local _)))
 
   pub weekdayShape-alike : (m : Manner) → Alike u 1 (weekdayShape m)

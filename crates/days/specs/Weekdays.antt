@@ -8,7 +8,7 @@ use Rattle.names.specs.Texts.{sign}
 use Rattle.names.specs.Names.{name, weekday}
 use Rattle.names.specs.Refusals.{range}
 use Rattle.names.specs.declared.Manner.{Manner}
-use Rattle.names.specs.declared.Manner.the-variants.{First, Second}
+use Rattle.names.specs.declared.Manner.the-variants.{First, Second, House}
 use Rattle.records.specs.Items.{item, meant}
 use Rattle.records.specs.declared.Signed.{Signed}
 use Rattle.records.specs.declared.Item.{Item}
@@ -56,7 +56,7 @@ withEntries first = do
   d ← anyDays
   pure (rawWeekdays first first m d)
 
--- after the first, in the first edition: one of the two, or nothing
+-- after the first, in the first edition and in a house sheet: one of the two, or nothing
 unfoldable pub narrowBehind : ℕ → Reader RawWeekdays
 narrowBehind first = untilWeekday first or withEntries first or pure (plain first first)
 
@@ -72,6 +72,7 @@ wideBehind first = do
 abbrev pub weekdayBehind : Manner → ℕ → Reader RawWeekdays
 weekdayBehind First = narrowBehind
 weekdayBehind Second = wideBehind
+weekdayBehind House = narrowBehind
 
 -- the shape
 unfoldable pub weekdayShape : Manner → Reader RawWeekdays

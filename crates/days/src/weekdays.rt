@@ -190,8 +190,8 @@ fn weekday_behind(s: &[u8], m: Manner, c: Cursor, first: u8) -> WeekdaysThen
     ensures { λ r. ⌜ weekdays.weekdayBehind m first (now (s .entry)) (c .at) ≡ thenWeekdays r ⌝ }
 {
     match m {
-        Manner::First => narrow_behind(s, c, first),
         Manner::Second => wide_behind(s, c, first),
+        _ => narrow_behind(s, c, first),
     }
 }
 

@@ -1,11 +1,12 @@
--- No second answer meets the promise of a user's call, for each of the eighteen: two that meet it are one.
+-- No second answer meets the promise of a user's call, for each of the twenty-four: two that meet it are one.
 use Prim.Native.Nat.{ℕ}
 use mathlib.Core.Bool.{Bool}
 use mathlib.Core.List.{List}
 use mathlib.Core.Path.{_≡_, sym, ap, _∙_}
 use lib.IntN.{ℤ}
-use Rattle.sheet.specs.Sheets.{sheetReading, sheetReadingBytes}
-use Rattle.sheet.specs.PartReadings.{partReading, partReadingBytes}
+use Rattle.names.specs.declared.Manner.{Manner}
+use Rattle.sheet.specs.Sheets.{sheetReadingBy, sheetReadingBytesBy}
+use Rattle.sheet.specs.PartReadings.{partReadingBy, partReadingBytesBy}
 use Rattle.sheet.specs.Notes.{Bytes, Part, notePart, numbersOf, noteOf}
 use Rattle.sheet.specs.declared.Answer.{Answer}
 use Rattle.sheet.specs.declared.PartAnswer.{PartAnswer}
@@ -13,27 +14,27 @@ use Rattle.sheet.specs.declared.NotePart.{NotePart}
 use Rattle.sheet.specs.Editions.{sheetReadingIn, sheetReadingBytesIn, partReadingIn, partReadingBytesIn}
 use Rattle.feed.specs.Feeds.{feedReading, feedReadingBytes}
 use Rattle.feed.specs.declared.FeedAnswer.{FeedAnswer}
-use Rattle.entries.specs.Calls.{sheetCall, sheetCallIn, partCall, partCallIn, noteCall, feedCall}
+use Rattle.entries.specs.Calls.{sheetCallBy, sheetCallIn, partCallBy, partCallIn, noteCall, feedCall}
 
 -- what is the same as a third thing is the same
 one : {A : Type 0} {x y z : A} → x ≡ z → y ≡ z → x ≡ y
 one d e = d ∙ sym e
 
--- read_sheet: the answer, and the table afterwards
-pub sheet-apart : (s : List ℕ) (t : List ℤ) {x y : Answer × List ℤ} → x ≡ sheetReading s t → y ≡ sheetReading s t → x ≡ y
-sheet-apart s t = one
+-- read_sheet, read_house_sheet: the answer, and the table afterwards
+pub sheet-apart : (m : Manner) (s : List ℕ) (t : List ℤ) {x y : Answer × List ℤ} → x ≡ sheetReadingBy m s t → y ≡ sheetReadingBy m s t → x ≡ y
+sheet-apart m s t = one
 
--- read_sheet_bytes
-pub sheet-bytes-apart : (s t : List ℕ) {x y : Answer × List ℕ} → x ≡ sheetReadingBytes s t → y ≡ sheetReadingBytes s t → x ≡ y
-sheet-bytes-apart s t = one
+-- read_sheet_bytes, read_house_sheet_bytes
+pub sheet-bytes-apart : (m : Manner) (s t : List ℕ) {x y : Answer × List ℕ} → x ≡ sheetReadingBytesBy m s t → y ≡ sheetReadingBytesBy m s t → x ≡ y
+sheet-bytes-apart m s t = one
 
--- read_part
-pub part-apart : (s : List ℕ) (p : ℕ) (t : List ℤ) {x y : PartAnswer × List ℤ} → x ≡ partReading s p t → y ≡ partReading s p t → x ≡ y
-part-apart s p t = one
+-- read_part, read_house_part
+pub part-apart : (m : Manner) (s : List ℕ) (p : ℕ) (t : List ℤ) {x y : PartAnswer × List ℤ} → x ≡ partReadingBy m s p t → y ≡ partReadingBy m s p t → x ≡ y
+part-apart m s p t = one
 
--- read_part_bytes
-pub part-bytes-apart : (s : List ℕ) (p : ℕ) (t : List ℕ) {x y : PartAnswer × List ℕ} → x ≡ partReadingBytes s p t → y ≡ partReadingBytes s p t → x ≡ y
-part-bytes-apart s p t = one
+-- read_part_bytes, read_house_part_bytes
+pub part-bytes-apart : (m : Manner) (s : List ℕ) (p : ℕ) (t : List ℕ) {x y : PartAnswer × List ℕ} → x ≡ partReadingBytesBy m s p t → y ≡ partReadingBytesBy m s p t → x ≡ y
+part-bytes-apart m s p t = one
 
 -- note_part: each of its three numbers
 pub note-part-apart : (sheet note : ℕ) (a n : ℤ) {x y : NotePart} → numbersOf x ≡ notePart sheet note a n → numbersOf y ≡ notePart sheet note a n → x ≡ y
@@ -52,13 +53,13 @@ feed-apart s u t = one
 pub feed-bytes-apart : (s u t : List ℕ) {x y : FeedAnswer × (List ℕ × List ℕ)} → x ≡ feedReadingBytes s u t → y ≡ feedReadingBytes s u t → x ≡ y
 feed-bytes-apart s u t = one
 
--- lorukinde_read_sheet: the numbers, and the table afterwards
-pub sheet-call-apart : (s t : List ℕ) {x y : List ℕ × List ℕ} → x ≡ sheetCall s t → y ≡ sheetCall s t → x ≡ y
-sheet-call-apart s t = one
+-- lorukinde_read_sheet, lorukinde_read_house_sheet: the numbers, and the table afterwards
+pub sheet-call-apart : (m : Manner) (s t : List ℕ) {x y : List ℕ × List ℕ} → x ≡ sheetCallBy m s t → y ≡ sheetCallBy m s t → x ≡ y
+sheet-call-apart m s t = one
 
--- lorukinde_read_part
-pub part-call-apart : (s : List ℕ) (p : ℕ) (t : List ℕ) {x y : List ℕ × List ℕ} → x ≡ partCall s p t → y ≡ partCall s p t → x ≡ y
-part-call-apart s p t = one
+-- lorukinde_read_part, lorukinde_read_house_part
+pub part-call-apart : (m : Manner) (s : List ℕ) (p : ℕ) (t : List ℕ) {x y : List ℕ × List ℕ} → x ≡ partCallBy m s p t → y ≡ partCallBy m s p t → x ≡ y
+part-call-apart m s p t = one
 
 -- lorukinde_note: the numbers
 pub note-call-apart : (sheet note : ℕ) (a n : ℤ) {x y : List ℕ} → x ≡ noteCall sheet note a n → y ≡ noteCall sheet note a n → x ≡ y

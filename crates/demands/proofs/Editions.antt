@@ -23,6 +23,7 @@ use Rattle.sheet.specs.declared.PartAnswer.{PartAnswer}
 use Rattle.sheet.proofs.Moves.{rules-ended}
 use Rattle.entries.specs.Calls.{sheetNumbers, partNumbers, sheetCall, sheetCallBy, sheetCallIn, partCall, partCallBy, partCallIn}
 use Rattle.demands.specs.Editions.{SheetKept, PartKept, SheetCalls, PartCalls}
+use Rattle.demands.proofs.Judged.{first-rules, second-rules}
 use Rattle.demands.proofs.Numbers.{next-same}
 use Rattle.demands.proofs.PointsRules.{sheet-never, part-never}
 use Rattle.demands.proofs.Wider.{Wide, same, lost, Never}
@@ -31,7 +32,7 @@ use Rattle.demands.proofs.WiderRules.{rules-wide}
 -- a text
 text-kept : (s : List ℕ) (p n : ℕ) → textOf First s p n .0 .number ≡ 0 → textOf Second s p n ≡ textOf First s p n
 unfolding textOf
-text-kept s p n = go _ (rules-wide s p) (rules-ended First [] .ends s [] p stop-end tt)
+text-kept s p n = rw (first-rules s p, second-rules s p) (go _ (rules-wide s p) (rules-ended First [] .ends s [] p stop-end tt))
   where
     go : (P : ℕ → Type 0) {x y : Read (List Rule × Unit {0})} → Wide Never x y → Ends P x → judgedText s p n x .0 .number ≡ 0 → judgedText s p n y ≡ judgedText s p n x
     go P same h e = refl

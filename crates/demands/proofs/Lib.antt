@@ -1,4 +1,5 @@
 pub mod Cuts
+pub mod Judged
 pub mod TextMoves
 pub mod Alone
 pub mod PartMoves
@@ -26,3 +27,6 @@ pub mod WiderRules
 pub mod Editions
 pub mod Points
 pub mod PointsRules
+pub mod HouseRecords
+pub mod HouseRules
+pub mod Houses

@@ -1,7 +1,8 @@
--- Bad input gets one of the refusal numbers: no answer has a number above the greatest.
+-- Bad input gets one of the refusal numbers of the manner it is read in.
 use Prim.Native.Nat.{ℕ, suc, _/_, _≤_}
 use mathlib.Core.List.{List, []}
 use mathlib.Core.Bool.{Bool, true, false, not}
+use mathlib.Core.Logic.{_⊎_, inl, inr}
 use mathlib.Core.Path.{_≡_, refl}
 use native.Mathlib.Omega.{arith}
 use lib.Dec.{ltb}
@@ -9,49 +10,65 @@ use lib.IntN.{ℤ}
 use lib.ListN.{length, take}
 use Rattle.names.specs.declared.Manner.{Manner}
 use Rattle.names.specs.Tests.{if_then_else_}
-use Rattle.names.specs.Read.{Read, got, none, refused}
-use Rattle.names.specs.Refusals.{greatest}
-use Rattle.names.proofs.Local.{Ends, stop-end}
-use Rattle.rules.specs.Rules.{Rule}
-use Rattle.sheet.specs.Texts.{rules, records}
+use Rattle.names.specs.Read.{got, none, refused}
+use Rattle.names.specs.Refusals.{houseForm, houseOrder, greatest}
+use Rattle.names.specs.declared.Manner.the-variants.{First, Second, House}
+use Rattle.sheet.specs.Texts.{judgedRules, records}
 use Rattle.sheet.specs.Sheets.{refusal, judgedText, textOf, sheetBy}
 use Rattle.sheet.specs.Parts.{begins, partEnd}
 use Rattle.sheet.specs.PartReadings.{partAnswerOf, withNext, partTo, partRefusal, partBy}
 use Rattle.sheet.specs.declared.Answer.{Answer}
 use Rattle.sheet.specs.declared.PartAnswer.{PartAnswer}
-use Rattle.sheet.proofs.Moves.{rules-ended}
+use Rattle.demands.proofs.Judged.{Rules, NumberIn, Numbered, judged-number}
 
 -- one or the other, by a test
 pub either : {A : Type 0} (P : A → Type 0) (t : Bool) (a b : A) → P a → P b → P (if t then a else b)
 either P true a b h k = h
 either P false a b h k = k
 
--- an answer with such a number
-abbrev Known : Answer × List (List ℤ) → Type 0
-Known r = r .0 .number ≤ greatest
+-- the numbers of the answers: up to the greatest of the rules', and in a house sheet the profile's two
+abbrev pub Given : Manner → ℕ → Type 0
+Given First k = k ≤ greatest
+Given Second k = k ≤ greatest
+Given House k = (k ≤ greatest) ⊎ ((k ≡ houseForm) ⊎ (k ≡ houseOrder))
 
-abbrev KnownPart : PartAnswer × List (List ℤ) → Type 0
-KnownPart r = r .0 .number ≤ greatest
+given : (m : Manner) {k : ℕ} → k ≤ greatest → Given m k
+given First h = h
+given Second h = h
+given House h = inl h
+
+given-refused : (m : Manner) (k : ℕ) → NumberIn m k → Given m k
+given-refused First k h = h .1
+given-refused Second k h = h .1
+given-refused House k (inl h) = inl (h .1)
+given-refused House k (inr h) = inr h
+
+-- an answer with such a number
+abbrev Known : Manner → Answer × List (List ℤ) → Type 0
+Known m r = Given m (r .0 .number)
+
+abbrev KnownPart : Manner → PartAnswer × List (List ℤ) → Type 0
+KnownPart m r = Given m (r .0 .number)
 
 -- of a text
-pub text-number : (m : Manner) (s : List ℕ) (p n : ℕ) → textOf m s p n .0 .number ≤ greatest
+pub text-number : (m : Manner) (s : List ℕ) (p n : ℕ) → Given m (textOf m s p n .0 .number)
 unfolding textOf
-text-number m s p n = go _ (rules m s p) (rules-ended m [] .ends s [] p stop-end tt)
+text-number m s p n = go (judgedRules m s p) (judged-number m s p)
   where
-    go : (P : ℕ → Type 0) (r : Read (List Rule × Unit {0})) → Ends P r → judgedText s p n r .0 .number ≤ greatest
-    go P (got l j) h = either Known (ltb (n / 16) (length (records (l .0)))) (refusal 10 p) _ (omega arith) (omega arith)
-    go P none h = omega arith
-    go P (refused k q) h = omega (arith, h)
+    go : (r : Rules) → Numbered m r → Given m (judgedText s p n r .0 .number)
+    go (got l j) h = either (Known m) (ltb (n / 16) (length (records (l .0)))) (refusal 10 p) _ (given m (omega arith)) (given m (omega arith))
+    go none h = given m (omega arith)
+    go (refused k q) h = given-refused m k h
 
 -- of a sheet
-pub sheet-number : (m : Manner) (s : List ℕ) (n : ℕ) → sheetBy m s n .0 .number ≤ greatest
+pub sheet-number : (m : Manner) (s : List ℕ) (n : ℕ) → Given m (sheetBy m s n .0 .number)
 unfolding sheetBy
-sheet-number m s n = either Known (ltb 4096 (length s)) (refusal 1 0) (textOf m s 0 n) (omega arith) (text-number m s 0 n)
+sheet-number m s n = either (Known m) (ltb 4096 (length s)) (refusal 1 0) (textOf m s 0 n) (given m (omega arith)) (text-number m s 0 n)
 
 -- with the next part's place
-next-number : (s : List ℕ) (e : ℕ) (a : Answer) → a .number ≤ greatest → withNext s e a .number ≤ greatest
+next-number : (m : Manner) (s : List ℕ) (e : ℕ) (a : Answer) → Given m (a .number) → Given m (withNext s e a .number)
 unfolding withNext
-next-number s e a h = either (λ r. r .number ≤ greatest) (ltb e (length s)) (partAnswerOf a (suc e) false) (partAnswerOf a 0 true) h h
+next-number m s e a h = either (λ r. Given m (r .number)) (ltb e (length s)) (partAnswerOf a (suc e) false) (partAnswerOf a 0 true) h h
 
 -- the number of a part is its text's
 pub next-same : (s : List ℕ) (e : ℕ) (a : Answer) → withNext s e a .number ≡ a .number
@@ -63,9 +80,9 @@ next-same s e a = go (ltb e (length s))
     go false = refl
 
 -- of a part
-pub part-number : (m : Manner) (s : List ℕ) (p n : ℕ) → partBy m s p n .0 .number ≤ greatest
+pub part-number : (m : Manner) (s : List ℕ) (p n : ℕ) → Given m (partBy m s p n .0 .number)
 unfolding partBy
 part-number m s p n =
     let e = partEnd s p in
-    either KnownPart (ltb 4096 (length s)) (partRefusal 1) (if not (begins s p) then partRefusal 2 else partTo m s p n e) (omega arith)
-    (either KnownPart (not (begins s p)) (partRefusal 2) (partTo m s p n e) (omega arith) (next-number s e (textOf m (take e s) p n .0) (text-number m (take e s) p n)))
+    either (KnownPart m) (ltb 4096 (length s)) (partRefusal 1) (if not (begins s p) then partRefusal 2 else partTo m s p n e) (given m (omega arith))
+    (either (KnownPart m) (not (begins s p)) (partRefusal 2) (partTo m s p n e) (given m (omega arith)) (next-number m s e (textOf m (take e s) p n .0) (text-number m (take e s) p n)))

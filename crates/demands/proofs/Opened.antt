@@ -10,7 +10,7 @@ use Rattle.names.specs.Texts.{byte, allOf, blanks, blank, comma}
 use Rattle.calendar.specs.Calendar.{leap, lastOfFebruary, hasThirty, lastOf, isDay}
 use Rattle.records.specs.Tables.{laid}
 use Rattle.records.specs.Words.{wordsOf}
-use Rattle.times.specs.Meanings.{dayClock, endClock, repeatClock, spanMeaning}
+use Rattle.times.specs.Meanings.{eventOf, dayClock, endClock, repeatClock, spanMeaning}
 use Rattle.times.specs.Spans.{repeated, tail, untilTime, spanBehind, spanShape, timeItem, eventItemBehind}
 use Rattle.times.specs.Times.{clock, moved, movedEvent, rawTime}
 use Rattle.days.specs.Entries.{backEntry, frontEntry, entry, nextEntry, setAll, goodEntry, marked, markedAll, entries, bits}
@@ -38,10 +38,10 @@ use Rattle.sheet.specs.Heads.{headWords, itemRecord}
 use Rattle.sheet.specs.PartReadings.{withNext, partBy, partReadingBy}
 use Rattle.sheet.specs.Parts.{partIn, begins, partEnd, beginnings}
 use Rattle.sheet.specs.Sheets.{textOf, sheetBy, sheetReadingBy}
-use Rattle.sheet.specs.Texts.{parted, moreRules, noMore, rules, records}
+use Rattle.sheet.specs.Texts.{parted, moreRules, noMore, rules, judgedRules, records}
 use Rattle.sheet.specs.Warnings.{isLetter, warningsIn}
 
 -- nothing, over the line that opens them
 unfoldable pub opened : Unit {0}
-unfolding chainIn chain many skip names spelledSo lower letter firstOf word name isDigit digit upTo digits clockBehind number insideOf one ahead atEnd allSmall written spelt warns within byte allOf blanks blank comma leap lastOfFebruary hasThirty lastOf isDay wordsOf dayClock endClock repeatClock spanMeaning repeated tail untilTime spanBehind spanShape timeItem eventItemBehind clock moved movedEvent rawTime backEntry frontEntry entry nextEntry setAll goodEntry marked markedAll entries bits holidayBehind holidayShape holidayMeaning holidayItem holidayItemBehind plusOrMinus dayOffset anyDays wdayOffset offset lastWeekday bracketed untilWeekday withEntries narrowBehind wideBehind weekdayShape flagged weekdayMeaning weekdayItem weekdayItemBehind optionalYear backNth frontNth nth weekdayOf dayOf dayBehind date untilDate bareDay until endShape datesBehind nextYear nextMonth monthFrom firstWith bareEnd lastDay dateMeaning monthMeaning lastMonth monthBehind monthItemBehind dateItemBehind monthDayBehind monthDayItem stepped untilLast goodRange stepOf weekShape weekMeaning weekItem yearBehind yearShape yearMeaning yearItem yearItemBehind octet utf8-tail utf8-2 utf8-3 utf8-4 longer isInner plain letterOf letters closed illFormed comment commentApart weeks itemOf itemIn listed following isWide goesOn colonSign colon headWords itemRecord withComment modifier hasQuote atBrokenQuote missingAt missing empty more plainEnd end always wideComment opening wins behind rule commaBlank bars separator next stop ruleEnd laid withNext partBy partReadingBy partIn begins partEnd beginnings textOf sheetBy sheetReadingBy parted moreRules noMore rules records isLetter warningsIn
+unfolding chainIn chain many skip names spelledSo lower letter firstOf word name isDigit digit upTo digits clockBehind number insideOf one ahead atEnd allSmall written spelt warns within byte allOf blanks blank comma leap lastOfFebruary hasThirty lastOf isDay wordsOf dayClock endClock repeatClock eventOf spanMeaning repeated tail untilTime spanBehind spanShape timeItem eventItemBehind clock moved movedEvent rawTime backEntry frontEntry entry nextEntry setAll goodEntry marked markedAll entries bits holidayBehind holidayShape holidayMeaning holidayItem holidayItemBehind plusOrMinus dayOffset anyDays wdayOffset offset lastWeekday bracketed untilWeekday withEntries narrowBehind wideBehind weekdayShape flagged weekdayMeaning weekdayItem weekdayItemBehind optionalYear backNth frontNth nth weekdayOf dayOf dayBehind date untilDate bareDay until endShape datesBehind nextYear nextMonth monthFrom firstWith bareEnd lastDay dateMeaning monthMeaning lastMonth monthBehind monthItemBehind dateItemBehind monthDayBehind monthDayItem stepped untilLast goodRange stepOf weekShape weekMeaning weekItem yearBehind yearShape yearMeaning yearItem yearItemBehind octet utf8-tail utf8-2 utf8-3 utf8-4 longer isInner plain letterOf letters closed illFormed comment commentApart weeks itemOf itemIn listed following isWide goesOn colonSign colon headWords itemRecord withComment modifier hasQuote atBrokenQuote missingAt missing empty more plainEnd end always wideComment opening wins behind rule commaBlank bars separator next stop ruleEnd laid withNext partBy partReadingBy partIn begins partEnd beginnings textOf sheetBy sheetReadingBy parted moreRules noMore rules judgedRules records isLetter warningsIn
 opened = tt

@@ -57,6 +57,7 @@ use Rattle.sheet.specs.PartReadings.{partTo, partRefusal, partBy}
 use Rattle.sheet.specs.declared.Answer.{Answer}
 use Rattle.sheet.specs.declared.PartAnswer.{PartAnswer}
 use Rattle.demands.specs.Editions.{SheetNever8, PartNever8}
+use Rattle.demands.proofs.Judged.{second-rules}
 use Rattle.demands.proofs.Numbers.{either, next-same}
 use Rattle.demands.proofs.Points.{Other, Tells, nothing-tells, pure-tells, here-tells, refuse-tells, branch-tells, then-tells, or-tells, map-tells, if-tells, chain-tells, many-tells, only-tells, one-tells, ahead-tells, atEnd-tells, skip-tells, byte-tells, allOf-tells, blanks-tells, blank-tells, comma-tells, number-tells, word-tells, name-tells, OtherMeant, other-if, meant-tells, item-tells, timeItem-tells, offset-tells, weekdayItem-tells, holidayItem-tells}
 
@@ -312,7 +313,7 @@ rules-tells = chain-tells moreRules-tells noMore-tells (Another 0)
 
 text-never : (s : List ℕ) (p n : ℕ) → textOf Second s p n .0 .number ≡ 8 → ⊥
 unfolding textOf
-text-never s p n = go (rules Second s p) (rules-tells .tells s p)
+text-never s p n = rw (second-rules s p) (go (rules Second s p) (rules-tells .tells s p))
   where
     go : (r : Read (List rule-specs.Rule × Unit {0})) → Other r → judgedText s p n r .0 .number ≡ 8 → ⊥
     go (got l j) h = either (λ (x : Answer × List (List ℤ)). x .0 .number ≡ 8 → ⊥) (ltb (n / 16) (length (records (l .0)))) (refusal 10 p) _ (λ e. omega arith) (λ e. omega arith)

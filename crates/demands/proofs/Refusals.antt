@@ -1,4 +1,4 @@
--- A refusal leaves everything as it was, for each of the twelve calls that read: whatever meets its promise, with a number other than 0.
+-- A refusal leaves everything as it was, for each of the eighteen calls that read: whatever meets its promise, with a number other than 0.
 use Prim.Native.Nat.{ℕ, suc, _/_}
 use mathlib.Core.List.{List, [], _∷_}
 use mathlib.Core.Bool.{true, false, not}
@@ -12,7 +12,7 @@ use Rattle.names.specs.Read.{Read, got, none, refused}
 use Rattle.names.specs.Refusals.{noPart, noRoom, tooLong, unknownEdition}
 use Rattle.records.specs.Tables.{Layout, laid}
 use Rattle.rules.specs.Rules.{Rule}
-use Rattle.sheet.specs.Texts.{rules, records}
+use Rattle.sheet.specs.Texts.{judgedRules, records}
 use Rattle.sheet.specs.Sheets.{refusal, judgedText, textOf, sheetBy, tableAfterAs, sheetReadingBy, sheetReadingBytesBy}
 use Rattle.sheet.specs.Parts.{begins, partEnd}
 use Rattle.sheet.specs.PartReadings.{partAnswerOf, withNext, partTo, partRefusal, partBy, partReadingBy, partReadingBytesBy}
@@ -40,7 +40,7 @@ EmptyPart r = Empty (r .0 .number) (r .0 .records) (r .0 .warnings) (r .1)
 -- of a text
 text-empty : (m : Manner) (s : List ℕ) (p n : ℕ) → EmptyText (textOf m s p n)
 unfolding textOf
-text-empty m s p n = go (rules m s p)
+text-empty m s p n = go (judgedRules m s p)
   where
     go : (r : Read (List Rule × Unit {0})) → EmptyText (judgedText s p n r)
     go (got l j) = either EmptyText (ltb (n / 16) (length (records (l .0)))) (refusal noRoom p) _ (λ x. (refl, refl, refl)) (λ x. absurd (x refl))

@@ -10,8 +10,8 @@ use lib.ListN.{length, drop, set, length-map}
 use lib.Seq.{drop-append-add}
 use Rattle.names.specs.declared.Manner.{Manner}
 use Rattle.names.specs.Tests.{if_then_else_}
-use Rattle.names.specs.Read.{Read, got, none, refused}
-use Rattle.names.proofs.Local.{stop-end, Ends, moved}
+use Rattle.names.specs.Read.{got, none, refused}
+use Rattle.names.proofs.Local.{moved}
 use Rattle.records.specs.Words.{record16, wordsOf, placedAt}
 use Rattle.records.specs.declared.Item.{Item}
 use Rattle.records.specs.declared.Item.the-variants.{Years, Months, Dates, Weeks, Weekdays, Holidays, Times}
@@ -21,11 +21,12 @@ use Rattle.rules.proofs.Cut.{startMoves, headMoves, ruleMoves}
 use Rattle.items.specs.Kinds.{Placed}
 use Rattle.items.proofs.Cut.{placedMoves}
 use Rattle.sheet.specs.Heads.{headWords, itemRecord}
-use Rattle.sheet.specs.Texts.{rules, records}
+use Rattle.sheet.specs.Texts.{judgedRules, records}
 use Rattle.sheet.specs.Warnings.{warningsOf}
 use Rattle.sheet.specs.Sheets.{answerOf, refusal, judgedText, textOf}
 use Rattle.demands.specs.Moved.{movedWord, hasComment, movedRecord, movedReading}
-use Rattle.sheet.proofs.Moves.{rulesMove, rules-ended, rules-move}
+use Rattle.sheet.proofs.Moves.{rulesMove}
+use Rattle.demands.proofs.Judged.{Rules, Numbered, number-positive, judged-number, judged-move}
 
 -- ---- records
 
@@ -79,16 +80,16 @@ records-move d (r ∷ l) = rw (records-move d l, map-append (movedRecord d) (map
 -- the move law of a reading
 pub text-move : (m : Manner) (u s : List ℕ) (p n : ℕ) → textOf m (u ++ s) (length u + p) n ≡ movedReading (length u) (textOf m s p n)
 unfolding textOf
-text-move m u s p n = rw (rules-move m u s p) (go _ (rules m s p) (rules-ended m [] .ends s [] p stop-end tt))
+text-move m u s p n = rw (judged-move m u s p) (go (judgedRules m s p) (judged-number m s p))
   where
     stored-moves : (rs : List (List ℤ)) (full : Bool) → (if full then refusal 10 (length u + p) else (answerOf 0 0 (length rs) (warningsOf (drop p s)), map (movedRecord (length u)) rs))
         ≡ movedReading (length u) (if full then refusal 10 p else (answerOf 0 0 (length rs) (warningsOf (drop p s)), rs))
     stored-moves rs true = refl
     stored-moves rs false = refl
 
-    go : (P : ℕ → Type 0) (r : Read (List Rule × Unit {0})) → Ends P r → judgedText (u ++ s) (length u + p) n (moved rulesMove (length u) r) ≡ movedReading (length u) (judgedText s p n r)
-    go P (got l j) h =
+    go : (r : Rules) → Numbered m r → judgedText (u ++ s) (length u + p) n (moved rulesMove (length u) r) ≡ movedReading (length u) (judgedText s p n r)
+    go (got l j) h =
         rw (records-move (length u) (l .0), length-map (records (l .0)) (movedRecord (length u)), drop-append-add u s p) (stored-moves (records (l .0)) (ltb (n / 16) (length (records (l .0)))))
-    go P none h = refl
-    go P (refused zero q) h = absurd (omega arith)
-    go P (refused (suc k) q) h = rw (eqb·suc-zero k)
+    go none h = refl
+    go (refused zero q) h = absurd (omega (arith, number-positive m h))
+    go (refused (suc k) q) h = rw (eqb·suc-zero k)

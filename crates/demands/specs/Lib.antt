@@ -9,3 +9,4 @@ pub mod Feeds
 pub mod Within
 pub mod Before
 pub mod Editions
+pub mod Houses

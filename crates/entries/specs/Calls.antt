@@ -4,7 +4,7 @@ use mathlib.Core.List.{List, [], _∷_}
 use mathlib.Core.Bool.{Bool, true, false}
 use lib.IntN.{ℤ}
 use Rattle.names.specs.declared.Manner.{Manner}
-use Rattle.names.specs.declared.Manner.the-variants.{First}
+use Rattle.names.specs.declared.Manner.the-variants.{First, House}
 use Rattle.sheet.specs.Sheets.{sheetReadingBytesBy}
 use Rattle.sheet.specs.PartReadings.{partReadingBytesBy}
 use Rattle.sheet.specs.Editions.{sheetReadingBytesIn, partReadingBytesIn}
@@ -43,6 +43,10 @@ sheetCallBy m s t = (sheetNumbers (sheetReadingBytesBy m s t .0), sheetReadingBy
 abbrev pub sheetCall : List ℕ → List ℕ → List ℕ × List ℕ
 sheetCall = sheetCallBy First
 
+-- of a house sheet
+abbrev pub houseCall : List ℕ → List ℕ → List ℕ × List ℕ
+houseCall = sheetCallBy House
+
 -- in an edition
 unfoldable pub sheetCallIn : ℕ → List ℕ → List ℕ → List ℕ × List ℕ
 sheetCallIn edition s t = (sheetNumbers (sheetReadingBytesIn edition s t .0), sheetReadingBytesIn edition s t .1)
@@ -54,6 +58,10 @@ partCallBy m s p t = (partNumbers (partReadingBytesBy m s p t .0), partReadingBy
 -- by the first edition
 abbrev pub partCall : List ℕ → ℕ → List ℕ → List ℕ × List ℕ
 partCall = partCallBy First
+
+-- of a house sheet
+abbrev pub housePartCall : List ℕ → ℕ → List ℕ → List ℕ × List ℕ
+housePartCall = partCallBy House
 
 -- in an edition
 unfoldable pub partCallIn : ℕ → List ℕ → ℕ → List ℕ → List ℕ × List ℕ

@@ -2,11 +2,13 @@
 ghost use Prim.Native.Nat.{_≤_};
 ghost use mathlib.Core.List.{[], _∷_};
 ghost use mathlib.Core.Path.{_≡_};
-ghost use Rattle.entries.specs.Calls.{flag, sheetNumbers, partNumbers, sheetCall, sheetCallIn, partCall, partCallIn, noteCall, feedCall};
+ghost use Rattle.entries.specs.Calls.{flag, sheetNumbers, partNumbers, sheetCall, sheetCallIn, houseCall, partCall, partCallIn, housePartCall, noteCall, feedCall};
 use feed::read_feed_bytes;
 use sheet::Answer;
 use sheet::PartAnswer;
 use sheet::note_part;
+use sheet::read_house_part_bytes;
+use sheet::read_house_sheet_bytes;
 use sheet::read_part_bytes;
 use sheet::read_part_bytes_in;
 use sheet::read_sheet_bytes;
@@ -81,6 +83,21 @@ pub extern "C" fn lorukinde_read_sheet_in(
     answer_numbers(a, place, records, warnings)
 }
 
+// Reads a house sheet.
+#[no_mangle]
+pub extern "C" fn lorukinde_read_house_sheet(
+    sheet: &[u8],
+    table: &mut [u8],
+    place: &mut u32,
+    records: &mut u32,
+    warnings: &mut u32,
+) -> u32
+    ensures { λ r. ⌜ (r ∷ now (place .exit) ∷ now (records .exit) ∷ now (warnings .exit) ∷ [], now (table .exit)) ≡ houseCall (now (sheet .entry)) (now (table .entry)) ⌝ }
+{
+    let a = read_house_sheet_bytes(sheet, table);
+    answer_numbers(a, place, records, warnings)
+}
+
 // Reads the part that begins at a place: also the next part's place is stored, and 1 if this was the last, else 0.
 #[no_mangle]
 pub extern "C" fn lorukinde_read_part(
@@ -115,6 +132,24 @@ pub extern "C" fn lorukinde_read_part_in(
     ensures { λ r. ⌜ (r ∷ now (place .exit) ∷ now (records .exit) ∷ now (warnings .exit) ∷ now (next .exit) ∷ now (last .exit) ∷ [], now (table .exit)) ≡ partCallIn edition (now (sheet .entry)) begin (now (table .entry)) ⌝ }
 {
     let part = read_part_bytes_in(edition, sheet, begin, table);
+    part_numbers(part, place, records, warnings, next, last)
+}
+
+// Reads the part of a house sheet that begins at a place.
+#[no_mangle]
+pub extern "C" fn lorukinde_read_house_part(
+    sheet: &[u8],
+    begin: usize,
+    table: &mut [u8],
+    place: &mut u32,
+    records: &mut u32,
+    warnings: &mut u32,
+    next: &mut u32,
+    last: &mut u32,
+) -> u32
+    ensures { λ r. ⌜ (r ∷ now (place .exit) ∷ now (records .exit) ∷ now (warnings .exit) ∷ now (next .exit) ∷ now (last .exit) ∷ [], now (table .exit)) ≡ housePartCall (now (sheet .entry)) begin (now (table .entry)) ⌝ }
+{
+    let part = read_house_part_bytes(sheet, begin, table);
     part_numbers(part, place, records, warnings, next, last)
 }
 

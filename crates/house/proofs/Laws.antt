@@ -1,38 +1,58 @@
--- What the code knows, item by item and rule by rule, is the first break of them all.
+-- What the code knows of a rule, item by item, is the rule's first break.
 use Prim.Native.Nat.{ℕ}
+use mathlib.Core.Bool.{false}
 use mathlib.Core.List.{List, [], _∷_}
 use mathlib.Core.Path.{_≡_, refl, sym, ap, _∙_}
 use denote.Enum.Declared.{tagOf}
 use types.Run.{OneOf, miss}
+use Rattle.names.specs.declared.Manner.{Manner}
+use Rattle.names.specs.declared.Manner.the-variants.{First, Second, House}
+use Rattle.records.specs.declared.Time.{Time}
+use Rattle.records.specs.declared.Time.the-variants.{Fixed, Dawn, Sunrise, Sunset, Dusk}
 use Rattle.records.specs.declared.Item.{Item}
 use Rattle.records.specs.declared.Item.the-variants.{Years, Months, Dates, Weeks, Weekdays, Holidays, Times}
 use Rattle.records.proofs.Item as item
+use Rattle.records.proofs.Time as time
 use Rattle.items.specs.Kinds.{Placed}
 use Rattle.rules.specs.Rules.{Rule}
-use Rattle.house.specs.Breaks.{firstOf, itemBreak, endWith, itemsBreak, separatorBreak, rulesBreak, withRule, withItem}
+use Rattle.house.specs.Spans.{isClock, minutes}
+use Rattle.house.specs.Breaks.{firstOf, itemBreak, endWith, itemsBreak, separatorBreak, ruleBreak, judgedBy, begun, withHouseItem, withItem, withItems}
 use Rattle.house.specs.declared.Break.{Break}
 use Rattle.house.specs.declared.Break.the-variants.{Nowhere, At}
-use Rattle.house.specs.declared.House.{House}
+use Rattle.house.specs.declared.Judgement.{Judgement}
 
 -- no later break
-first-none : (b : Break) → firstOf b Nowhere ≡ b
+pub first-none : (b : Break) → firstOf b Nowhere ≡ b
 first-none Nowhere = refl
 first-none (At k p) = refl
 
 -- of three, in any grouping
-first-assoc : (a b c : Break) → firstOf (firstOf a b) c ≡ firstOf a (firstOf b c)
+pub first-assoc : (a b c : Break) → firstOf (firstOf a b) c ≡ firstOf a (firstOf b c)
 first-assoc Nowhere b c = refl
 first-assoc (At k p) b c = refl
+
+-- the kinds of times that are no clock times
+abbrev events : List ℕ
+events = 1 ∷ 2 ∷ 3 ∷ 4 ∷ []
+
+-- an event is none, and has no minutes of the clock
+pub event-is : (t : Time) → OneOf events (tagOf time.the-type t) → (false ≡ isClock t) × (0 ≡ minutes t)
+unfolding isClock minutes
+event-is (Fixed m) k = absurd (miss events 0 tt k)
+event-is (Dawn m) k = (refl, refl)
+event-is (Sunrise m) k = (refl, refl)
+event-is (Sunset m) k = (refl, refl)
+event-is (Dusk m) k = (refl, refl)
 
 -- the kinds of items that are no times
 abbrev others : List ℕ
 others = 0 ∷ 1 ∷ 2 ∷ 3 ∷ 4 ∷ 5 ∷ []
 
-same : (h : House) → h ≡ record { first = firstOf (h .first) Nowhere; end = h .end }
+same : (h : Judgement) → h ≡ record { first = firstOf (h .first) Nowhere; end = h .end }
 same h = rw (first-none (h .first))
 
 -- they change nothing
-pub other-item : (h : House) (a : Item) (p : ℕ) → OneOf others (tagOf item.the-type a) → h ≡ withItem h (a, p)
+pub other-item : (h : Judgement) (a : Item) (p : ℕ) → OneOf others (tagOf item.the-type a) → h ≡ withHouseItem h (a, p)
 other-item h (Years r) p k = same h
 other-item h (Months r) p k = same h
 other-item h (Dates r) p k = same h
@@ -41,26 +61,30 @@ other-item h (Weekdays r) p k = same h
 other-item h (Holidays r) p k = same h
 other-item h (Times x) p k = absurd (miss others 6 tt k)
 
--- after a list of items
-abbrev pub withItems : House → List Placed → House
-withItems h [] = h
-withItems h (a ∷ l) = withItems (withItem h a) l
+-- where nothing breaks, nothing is judged to
+pub judged-none : (m : Manner) → judgedBy m Nowhere ≡ Nowhere
+judged-none First = refl
+judged-none Second = refl
+judged-none House = refl
 
-pub items-first : (l : List Placed) (h : House) → withItems h l .first ≡ firstOf (h .first) (itemsBreak (h .end) l)
+-- what is judged of two
+pub judged-first : (m : Manner) (a b : Break) → judgedBy m (firstOf a b) ≡ firstOf (judgedBy m a) (judgedBy m b)
+judged-first First a b = refl
+judged-first Second a b = refl
+judged-first House a b = refl
+
+-- what is known after a list of items is what was known, and their first break
+pub items-first : (m : Manner) (l : List Placed) (h : Judgement) → withItems m h l .first ≡ firstOf (h .first) (judgedBy m (itemsBreak (h .end) l))
 unfolding itemsBreak
-items-first [] h = sym (first-none (h .first))
-items-first (a ∷ l) h = items-first l (withItem h a) ∙ first-assoc (h .first) (itemBreak (h .end) a) (itemsBreak (endWith (h .end) (a .0)) l)
+items-first First [] h = sym (first-none (h .first))
+items-first First (a ∷ l) h = items-first First l h
+items-first Second [] h = sym (first-none (h .first))
+items-first Second (a ∷ l) h = items-first Second l h
+items-first House [] h = sym (first-none (h .first))
+items-first House (a ∷ l) h = items-first House l (withHouseItem h a) ∙ first-assoc (h .first) (itemBreak (h .end) a) (itemsBreak (endWith (h .end) (a .0)) l)
 
--- after a list of rules
-abbrev pub withRules : House → List Rule → House
-withRules h [] = h
-withRules h (r ∷ l) = withRules (withItems (withRule h (r .0 .separator) (r .0 .place)) (r .1)) l
-
-pub rules-first : (l : List Rule) (h : House) → withRules h l .first ≡ firstOf (h .first) (rulesBreak l)
-unfolding rulesBreak
-rules-first [] h = sym (first-none (h .first))
-rules-first (r ∷ l) h =
+-- after all items of a rule it is the rule's first break
+pub rule-first : (m : Manner) (r : Rule) → withItems m (begun m (r .0 .separator) (r .0 .place)) (r .1) .first ≡ judgedBy m (ruleBreak r)
+rule-first m r =
     let s = separatorBreak (r .0 .separator) (r .0 .place) in
-    rules-first l (withItems (withRule h (r .0 .separator) (r .0 .place)) (r .1))
-    ∙ ap (λ (b : Break). firstOf b (rulesBreak l)) (items-first (r .1) (withRule h (r .0 .separator) (r .0 .place)) ∙ first-assoc (h .first) s (itemsBreak 0 (r .1)))
-    ∙ first-assoc (h .first) (firstOf s (itemsBreak 0 (r .1))) (rulesBreak l)
+    items-first m (r .1) (begun m (r .0 .separator) (r .0 .place)) ∙ sym (judged-first m s (itemsBreak 0 (r .1)))

@@ -8,7 +8,7 @@ use lib.Dec.{ltb, leb, eqb}
 use borrow.Author.Tests.{lt-ltb, le-leb, eq-eqb, ltb-true, leb-true, eqb-true}
 use Rattle.names.specs.Tests.{if_then_else_}
 use Rattle.records.specs.declared.Time.{Time}
-use Rattle.records.specs.declared.Time.the-variants.{Fixed, Sun}
+use Rattle.records.specs.declared.Time.the-variants.{Fixed, Dawn, Sunrise, Sunset, Dusk}
 use Rattle.records.specs.declared.Repeat.{Repeat}
 use Rattle.records.specs.declared.Repeat.the-variants.{Never, Every}
 use Rattle.records.specs.declared.Span.{Span}
@@ -32,12 +32,18 @@ both false b e = absurd (true≢false (sym e))
 clock-is : (t : Time) → isClock t ≡ true → Clock t
 unfolding isClock
 clock-is (Fixed m) e = leb-true m 1440 e
-clock-is (Sun e m) h = absurd (true≢false (sym h))
+clock-is (Dawn m) e = absurd (true≢false (sym e))
+clock-is (Sunrise m) e = absurd (true≢false (sym e))
+clock-is (Sunset m) e = absurd (true≢false (sym e))
+clock-is (Dusk m) e = absurd (true≢false (sym e))
 
 is-clock : (t : Time) → Clock t → isClock t ≡ true
 unfolding isClock
 is-clock (Fixed m) h = le-leb m 1440 h
-is-clock (Sun e m) h = absurd h
+is-clock (Dawn m) h = absurd h
+is-clock (Sunrise m) h = absurd h
+is-clock (Sunset m) h = absurd h
+is-clock (Dusk m) h = absurd h
 
 never-is : (r : Repeat) → isNever r ≡ true → r ≡ Never
 unfolding isNever

@@ -3,14 +3,17 @@ use Prim.Native.Nat.{ℕ}
 use mathlib.Core.List.{List, [], _∷_}
 use lib.Dec.{eqb}
 use Rattle.names.specs.Tests.{if_then_else_}
+use Rattle.names.specs.Refusals.{houseForm}
+use Rattle.names.specs.declared.Manner.{Manner}
+use Rattle.names.specs.declared.Manner.the-variants.{First, Second, House}
 use Rattle.records.specs.declared.Item.{Item}
 use Rattle.records.specs.declared.Item.the-variants.{Years, Months, Dates, Weeks, Weekdays, Holidays, Times}
 use Rattle.items.specs.Kinds.{Placed}
 use Rattle.rules.specs.Rules.{Rule}
-use Rattle.house.specs.Spans.{houseForm, minutes, spanBreak}
+use Rattle.house.specs.Spans.{minutes, spanBreak}
 use Rattle.house.specs.declared.Break.{Break}
 use Rattle.house.specs.declared.Break.the-variants.{Nowhere, At}
-use Rattle.house.specs.declared.House.{House}
+use Rattle.house.specs.declared.Judgement.{Judgement}
 
 -- a break, or else another
 abbrev pub firstOf : Break → Break → Break
@@ -55,9 +58,29 @@ unfoldable pub rulesBreak : List Rule → Break
 rulesBreak [] = Nowhere
 rulesBreak (r ∷ l) = firstOf (ruleBreak r) (rulesBreak l)
 
--- what the code knows: with a rule more, and with an item more
-abbrev pub withRule : House → ℕ → ℕ → House
-withRule h separator place = record { first = firstOf h.first (separatorBreak separator place); end = 0 }
+-- only a house sheet is judged
+abbrev pub judgedBy : Manner → Break → Break
+judgedBy First b = Nowhere
+judgedBy Second b = Nowhere
+judgedBy House b = b
 
-abbrev pub withItem : House → Placed → House
-withItem h a = record { first = firstOf h.first (itemBreak h.end a); end = endWith h.end (a .0) }
+-- ---- what the code knows of a rule, item by item
+
+-- before its items
+abbrev pub begun : Manner → ℕ → ℕ → Judgement
+begun m separator place = record { first = judgedBy m (separatorBreak separator place); end = 0 }
+
+-- with an item more, in a house sheet
+abbrev pub withHouseItem : Judgement → Placed → Judgement
+withHouseItem h a = record { first = firstOf h.first (itemBreak h.end a); end = endWith h.end (a .0) }
+
+-- with an item more
+abbrev pub withItem : Manner → Judgement → Placed → Judgement
+withItem First h a = h
+withItem Second h a = h
+withItem House h a = withHouseItem h a
+
+-- with these items
+abbrev pub withItems : Manner → Judgement → List Placed → Judgement
+withItems m h [] = h
+withItems m h (a ∷ l) = withItems m (withItem m h a) l

@@ -4,7 +4,7 @@ use mathlib.Core.Bool.{true, false}
 use mathlib.Core.List.{List, [], _∷_}
 use mathlib.Core.Path.{_≡_}
 use Rattle.records.specs.declared.Time.{Time}
-use Rattle.records.specs.declared.Time.the-variants.{Fixed, Sun}
+use Rattle.records.specs.declared.Time.the-variants.{Fixed, Dawn, Sunrise, Sunset, Dusk}
 use Rattle.records.specs.declared.Repeat.the-variants.{Never}
 use Rattle.records.specs.declared.Span.{Span}
 use Rattle.records.specs.declared.Item.{Item}
@@ -33,7 +33,10 @@ Spanned P (Times x, p) = P x
 -- a clock time, up to 24:00
 abbrev pub Clock : Time → Type 0
 Clock (Fixed m) = m ≤ 1440
-Clock (Sun e m) = ⊥
+Clock (Dawn m) = ⊥
+Clock (Sunrise m) = ⊥
+Clock (Sunset m) = ⊥
+Clock (Dusk m) = ⊥
 
 -- only clock times, up to 24:00, without repeat or open end
 pub record Form (x : Span) : Type 0 where

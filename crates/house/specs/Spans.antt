@@ -3,31 +3,30 @@ use Prim.Native.Nat.{ℕ}
 use mathlib.Core.Bool.{Bool, true, false, _&&_, not}
 use lib.Dec.{ltb, leb}
 use Rattle.names.specs.Tests.{if_then_else_}
+use Rattle.names.specs.Refusals.{houseForm, houseOrder}
 use Rattle.records.specs.declared.Time.{Time}
-use Rattle.records.specs.declared.Time.the-variants.{Fixed, Sun}
+use Rattle.records.specs.declared.Time.the-variants.{Fixed, Dawn, Sunrise, Sunset, Dusk}
 use Rattle.records.specs.declared.Repeat.{Repeat}
 use Rattle.records.specs.declared.Repeat.the-variants.{Never, Every}
 use Rattle.records.specs.declared.Span.{Span}
 use Rattle.house.specs.declared.Break.{Break}
 use Rattle.house.specs.declared.Break.the-variants.{Nowhere, At}
 
--- the house's refusal numbers: a form that it does not allow
-abbrev pub houseForm : ℕ
-houseForm = 22
-
--- a span that ends not after its start, or starts before an earlier one ends
-abbrev pub houseOrder : ℕ
-houseOrder = 23
-
 -- a clock time up to 24:00
 unfoldable pub isClock : Time → Bool
 isClock (Fixed m) = leb m 1440
-isClock (Sun e m) = false
+isClock (Dawn m) = false
+isClock (Sunrise m) = false
+isClock (Sunset m) = false
+isClock (Dusk m) = false
 
 -- its minutes
 unfoldable pub minutes : Time → ℕ
 minutes (Fixed m) = m
-minutes (Sun e m) = 0
+minutes (Dawn m) = 0
+minutes (Sunrise m) = 0
+minutes (Sunset m) = 0
+minutes (Dusk m) = 0
 
 -- no repeat
 unfoldable pub isNever : Repeat → Bool

@@ -1,15 +1,16 @@
-// The rules and their items, one after another: the first break is kept.
+// The rules and their items, one after another: the first break is kept. Only a house sheet is judged.
 ghost use mathlib.Core.Path.{_≡_};
 ghost use Rattle.house.specs.Breaks as breaks;
 use crate::Break;
-use crate::House;
-use crate::spans::HOUSE_FORM;
+use crate::Judgement;
 use crate::spans::minutes;
 use crate::spans::span_break;
+use names::HOUSE_FORM;
+use names::Manner;
 use records::Item;
 
 // A break, or else another.
-fn first_of(a: Break, b: Break) -> Break
+pub fn first_of(a: Break, b: Break) -> Break
     ensures { λ r. ⌜ r ≡ breaks.firstOf a b ⌝ }
 {
     match a {
@@ -29,30 +30,47 @@ fn separator_break(separator: u8, place: usize) -> Break
     }
 }
 
-impl House {
-    // With a rule more, of which no item is judged yet.
-    pub fn rule(self, separator: u8, place: usize) -> House
-        ensures { λ r. ⌜ r ≡ breaks.withRule self separator place ⌝ }
+impl Judgement {
+    // Of a rule of which no item is judged yet.
+    pub fn begun(m: Manner, separator: u8, place: usize) -> Judgement
+        ensures { λ r. ⌜ r ≡ breaks.begun m separator place ⌝ }
     {
-        let before = self.first;
-        let first = first_of(before, separator_break(separator, place));
-        House { first, end: 0 }
+        match m {
+            Manner::House => {
+                let first = separator_break(separator, place);
+                Judgement { first, end: 0 }
+            }
+            _ => Judgement {
+                first: Break::Nowhere,
+                end: 0,
+            },
+        }
     }
 
-    // With an item more of the last rule.
-    pub fn item(self, a: Item, place: usize) -> House
-        ensures { λ r. ⌜ r ≡ breaks.withItem self (a, place) ⌝ }
+    // With an item more, in a house sheet.
+    fn house_item(self, a: Item, place: usize) -> Judgement
+        ensures { λ r. ⌜ r ≡ breaks.withHouseItem self (a, place) ⌝ }
     {
         match a {
             Item::Times(x) => {
                 let before = self.first;
                 let first = first_of(before, span_break(self.end, place, x));
                 let to = x.end;
-                House {
+                Judgement {
                     first,
                     end: minutes(to),
                 }
             }
+            _ => self,
+        }
+    }
+
+    // With an item more.
+    pub fn item(self, m: Manner, a: Item, place: usize) -> Judgement
+        ensures { λ r. ⌜ r ≡ breaks.withItem m self (a, place) ⌝ }
+    {
+        match m {
+            Manner::House => self.house_item(a, place),
             _ => self,
         }
     }

@@ -2,14 +2,16 @@
 mod breaks;
 mod spans;
 
+pub use breaks::first_of;
+
 // The first break of these, by its number and place, or nowhere.
 pub enum Break {
     Nowhere,
     At(u8, usize),
 }
 
-// What is known after some rules and items: the first break, and where the spans of the last rule end.
-pub struct House {
+// What is known of a rule after some of its items: its first break, and where its spans end.
+pub struct Judgement {
     pub first: Break,
     pub end: u16,
 }

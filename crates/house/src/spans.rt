@@ -2,15 +2,11 @@
 ghost use mathlib.Core.Path.{_≡_};
 ghost use Rattle.house.specs.Spans as spans;
 use crate::Break;
+use names::HOUSE_FORM;
+use names::HOUSE_ORDER;
 use records::Repeat;
 use records::Span;
 use records::Time;
-
-// The house's refusal numbers: a form that it does not allow.
-pub const HOUSE_FORM: u8 = 22;
-
-// A span that ends not after its start, or starts before an earlier one ends.
-pub const HOUSE_ORDER: u8 = 23;
 
 // The minutes of 24:00.
 const MIDNIGHT: u16 = 1440;
@@ -21,7 +17,7 @@ fn is_clock(t: Time) -> bool
 {
     match t {
         Time::Fixed(m) => m <= MIDNIGHT,
-        Time::Sun(_, _) => false,
+        _ => false,
     }
 }
 
@@ -31,7 +27,7 @@ pub fn minutes(t: Time) -> u16
 {
     match t {
         Time::Fixed(m) => m,
-        Time::Sun(_, _) => 0,
+        _ => 0,
     }
 }
 

@@ -8,6 +8,7 @@ pub mod Chains
 pub mod Cut
 pub mod NameCut
 pub mod Facts
+pub mod Manners
 pub mod Laws
 pub mod Digits
 pub mod Folds

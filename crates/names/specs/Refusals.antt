@@ -57,6 +57,14 @@ illFormedComment = 13
 abbrev pub unknownEdition : ℕ
 unknownEdition = 19
 
--- the greatest that a reading gives: 19 is given before anything is read
+-- a form that the house profile does not allow
+abbrev pub houseForm : ℕ
+houseForm = 22
+
+-- in a house sheet a span that ends not after its start, or starts before an earlier one ends
+abbrev pub houseOrder : ℕ
+houseOrder = 23
+
+-- the greatest that the rules of a text are refused by: 19 is given before anything is read, 22 and 23 after all rules are
 abbrev pub greatest : ℕ
 greatest = illFormedComment

@@ -9,6 +9,8 @@ mod texts;
 pub use refusals::BROKEN_QUOTE;
 pub use refusals::EASTER_DAY;
 pub use refusals::EMPTY_RULE;
+pub use refusals::HOUSE_FORM;
+pub use refusals::HOUSE_ORDER;
 pub use refusals::ILL_FORMED_COMMENT;
 pub use refusals::NO_PART;
 pub use refusals::NO_ROOM;
@@ -32,10 +34,11 @@ pub use table::WEEK;
 pub use table::WEEKDAY;
 pub use tests::within;
 
-// How a text is read: by the first edition of the rules, or by the second, which takes more shapes.
+// How a text is read: by the first edition of the rules; by the second, which takes more shapes; or as a house sheet, by the first and judged by the house profile besides.
 pub enum Manner {
     First,
     Second,
+    House,
 }
 
 // A place in a text. Each step takes it by value and hands it back moved on; past the end nothing stands.

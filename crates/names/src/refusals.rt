@@ -40,3 +40,9 @@ pub const ILL_FORMED_COMMENT: u8 = 13;
 
 // no edition has the given number
 pub const UNKNOWN_EDITION: u8 = 19;
+
+// a form that the house profile does not allow
+pub const HOUSE_FORM: u8 = 22;
+
+// in a house sheet a span that ends not after its start, or starts before an earlier one ends
+pub const HOUSE_ORDER: u8 = 23;

@@ -43,7 +43,10 @@ day-words y Easter = refl
 -- a time's
 time-words : (t : Time) → length (timeWords t) ≡ 2
 time-words (time.Fixed m) = refl
-time-words (time.Sun e m) = refl
+time-words (time.Dawn m) = refl
+time-words (time.Sunrise m) = refl
+time-words (time.Sunset m) = refl
+time-words (time.Dusk m) = refl
 
 -- an item's
 item-words : (a : Item) → length (itemWords a) ≤ 16

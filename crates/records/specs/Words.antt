@@ -35,10 +35,13 @@ dayWords y Easter = pos 3 ∷ pos y ∷ pos 0 ∷ pos 0 ∷ pos 0 ∷ []
 abbrev pub dateWords : Date → DateOffset → List ℤ
 dateWords d o = dayWords d.year d.day ++ (wordOf o.wday ∷ wordOf o.days ∷ [])
 
--- kind and minutes
+-- kind, 0 for a clock time, and minutes
 abbrev pub timeWords : Time → List ℤ
 timeWords (time.Fixed m) = pos 0 ∷ pos m ∷ []
-timeWords (time.Sun e m) = pos e ∷ wordOf m ∷ []
+timeWords (time.Dawn m) = pos 1 ∷ wordOf m ∷ []
+timeWords (time.Sunrise m) = pos 2 ∷ wordOf m ∷ []
+timeWords (time.Sunset m) = pos 3 ∷ wordOf m ∷ []
+timeWords (time.Dusk m) = pos 4 ∷ wordOf m ∷ []
 
 -- the repeat in minutes or -1
 abbrev pub repeatWord : Repeat → ℤ

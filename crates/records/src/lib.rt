@@ -80,10 +80,13 @@ pub struct Holiday {
     pub days: Signed,
 }
 
-// A clock time in minutes, or a sun event (1 dawn, 2 sunrise, 3 sunset, 4 dusk) with minutes added or taken off.
+// A clock time in minutes, or a sun event with minutes added or taken off.
 pub enum Time {
     Fixed(u16),
-    Sun(u8, Signed),
+    Dawn(Signed),
+    Sunrise(Signed),
+    Sunset(Signed),
+    Dusk(Signed),
 }
 
 // Whether a span is repeated, and after how many minutes.

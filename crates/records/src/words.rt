@@ -77,8 +77,20 @@ fn time_words(t: Time) -> TimeWords
             kind: 0,
             minutes: m as i32,
         },
-        Time::Sun(e, m) => TimeWords {
-            kind: e as i32,
+        Time::Dawn(m) => TimeWords {
+            kind: 1,
+            minutes: word_of(m),
+        },
+        Time::Sunrise(m) => TimeWords {
+            kind: 2,
+            minutes: word_of(m),
+        },
+        Time::Sunset(m) => TimeWords {
+            kind: 3,
+            minutes: word_of(m),
+        },
+        Time::Dusk(m) => TimeWords {
+            kind: 4,
             minutes: word_of(m),
         },
     }

@@ -1,6 +1,6 @@
 -- No second answer meets a promise: an answer is known by what it says.
 use mathlib.Core.Path.{_≡_, refl, ap}
-use Rattle.rules.specs.Seen.{seenComment, seenPiece, seenOpening, seenNext, seenRule}
+use Rattle.rules.specs.Seen.{seenComment, seenPiece, seenOpening, seenNext}
 use Rattle.rules.specs.declared.OpeningRead.{OpeningRead}
 use Rattle.rules.specs.declared.OpeningRead.the-variants as opening
 use Rattle.rules.specs.declared.CommentRead.{CommentRead}
@@ -12,8 +12,6 @@ use Rattle.rules.specs.declared.Piece.{Piece}
 use Rattle.rules.specs.declared.Piece.the-variants as piece
 use Rattle.rules.specs.declared.NextRead.{NextRead}
 use Rattle.rules.specs.declared.NextRead.the-variants as next
-use Rattle.rules.specs.declared.RuleRead.{RuleRead}
-use Rattle.rules.specs.declared.RuleRead.the-variants as rule
 
 pub comment-apart : (x y : CommentRead) → seenComment x ≡ seenComment y → x ≡ y
 comment-apart (comment.Got a c) (comment.Got b d) e = let h : c .at ≡ d .at = cc in let k : a ≡ b = cc in rw (k, h)
@@ -50,9 +48,3 @@ opening-apart (opening.Got a c) (opening.Got b d) e = let h : c .at ≡ d .at = 
 opening-apart (opening.Got a c) (opening.Refused k p) e = cc
 opening-apart (opening.Refused k p) (opening.Got b d) e = cc
 opening-apart (opening.Refused k p) (opening.Refused l q) e = cc
-
-pub rule-apart : (x y : RuleRead) → seenRule x ≡ seenRule y → x ≡ y
-rule-apart (rule.Got a c) (rule.Got b d) e = let h : c .at ≡ d .at = cc in let k : a ≡ b = cc in rw (k, h)
-rule-apart (rule.Got a c) (rule.Refused k p) e = cc
-rule-apart (rule.Refused k p) (rule.Got b d) e = cc
-rule-apart (rule.Refused k p) (rule.Refused l q) e = cc

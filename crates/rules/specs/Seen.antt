@@ -25,9 +25,6 @@ use Rattle.rules.specs.declared.Stage.the-variants.{After}
 use Rattle.rules.specs.declared.Opening.{Opening}
 use Rattle.rules.specs.declared.OpeningRead.{OpeningRead}
 use Rattle.rules.specs.declared.OpeningRead.the-variants as opening
-use Rattle.rules.specs.declared.Head.{Head}
-use Rattle.rules.specs.declared.RuleRead.{RuleRead}
-use Rattle.rules.specs.declared.RuleRead.the-variants as rule
 use Rattle.rules.specs.declared.Next.{Next}
 use Rattle.rules.specs.declared.NextRead.{NextRead}
 use Rattle.rules.specs.declared.NextRead.the-variants as next
@@ -69,7 +66,3 @@ seenOpening (opening.Refused k p) = refused k p
 abbrev pub seenNext : NextRead → Read Next
 seenNext (next.Got x c) = got x (c .at)
 seenNext next.Missing = none
-
-abbrev pub seenRule : RuleRead → Read Head
-seenRule (rule.Got h c) = got h (c .at)
-seenRule (rule.Refused k p) = refused k p

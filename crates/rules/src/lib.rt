@@ -92,9 +92,3 @@ pub enum NextRead {
     Got(Next, Cursor),
     Missing,
 }
-
-// What reading a rule finds: its head and the place after it, or a refusal with its number and place.
-pub enum RuleRead {
-    Got(Head, Cursor),
-    Refused(u8, usize),
-}

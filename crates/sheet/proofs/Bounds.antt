@@ -15,11 +15,23 @@ use Rattle.names.specs.Tests.{if_then_else_}
 use Rattle.names.specs.Quotes.{flips}
 use Rattle.names.specs.Read.{Read, got, none, refused, follow, nothing, pure, map}
 use Rattle.names.specs.Chain.{before, last, chainIn, chain}
-use Rattle.names.proofs.Local.{Ends, Near, near-up}
-use Rattle.rules.specs.Rules.{Rule}
+use Rattle.names.specs.Texts.{blanks}
+use Rattle.names.proofs.Local.{Ends, Near, near-up, past-one}
+use Rattle.items.specs.Kinds.{Placed}
+use Rattle.items.specs.Musts.{must}
+use Rattle.rules.specs.Rules.{Rule, rule}
+use Rattle.rules.specs.Separators.{next}
+use Rattle.rules.specs.Places.{Rising}
+use Rattle.rules.proofs.Cut.{rule-local}
+use Rattle.rules.proofs.Places.{places-rise}
+use Rattle.house.specs.Breaks.{rulesBreak, judgedBy}
+use Rattle.house.specs.Profile.{Each}
+use Rattle.house.specs.declared.Break.{Break}
+use Rattle.house.specs.declared.Break.the-variants.{Nowhere, At}
+use Rattle.house.proofs.Places.{Broken, OfItem, OfRule, more-broken, none-broken, judged-broken}
 use Rattle.rules.specs.declared.Next.{Next}
 use Rattle.rules.specs.declared.Next.the-variants.{Another, Finished}
-use Rattle.sheet.specs.Texts.{moreRules, noMore, rules, records}
+use Rattle.sheet.specs.Texts.{afterRule, parted, moreRules, noMore, rules, unbroken, judgedRules, records}
 use Rattle.sheet.specs.Warnings.{isLetter, warned, warningsIn, warningsOf}
 use Rattle.sheet.specs.Sheets.{answerOf, refusal, judgedText, textOf, sheetBy, sheetReadingBytesBy, wordsIn}
 use Rattle.sheet.specs.Parts.{begins, partEnd}
@@ -30,7 +42,7 @@ use Rattle.sheet.specs.declared.Edition.the-variants.{Known, Unknown}
 use Rattle.sheet.specs.declared.Answer.{Answer}
 use Rattle.sheet.specs.declared.PartAnswer.{PartAnswer}
 use Rattle.sheet.proofs.Moves.{moreRules-ended, takes}
-use Rattle.names.proofs.Upto.{Upto}
+use Rattle.names.proofs.Upto.{Upto, upto-then}
 use Rattle.sheet.proofs.Turns.{more-takes, records-more, records-none}
 use Rattle.sheet.proofs.PartLaws.{begins-fits, end-fits}
 
@@ -52,35 +64,56 @@ warnings-few inside letter (b ∷ s) = go (warned inside letter (b ∷ s) b) (wa
 more-near : (m : Manner) (x : Next) (s : List ℕ) (i : ℕ) → i ≤ length s → Near (length s) (moreRules m x s i)
 more-near m x s i h = near-up (moreRules m x s i) (omega arith) (moreRules-ended m {u = []} x .near s i (omega arith))
 
--- from the place i on there are no more records than bytes, and a refusal is at a place of the text
+-- a break or a refusal is at a place up to n
+abbrev UpTo : ℕ → ℕ → ℕ → Type 0
+UpTo n k p = p ≤ n
+
+-- so are the places of a rule and of its items
+items-placed : (n i k : ℕ) (l : List Placed) → k ≤ n → Rising i l k → Each (OfItem (UpTo n)) l
+items-placed n i k [] h r = tt
+items-placed n i k (a ∷ l) h r = let e : a .1 ≤ n = omega (arith, r .1) in ((e, e), items-placed n (suc (a .1)) k l h (r .2))
+
+more-placed : (m : Manner) (separator : ℕ) (s : List ℕ) (i : ℕ) → Upto (λ x k. OfRule (UpTo (length s)) (x .0)) (moreRules m (Another separator) s i)
+unfolding moreRules parted
+more-placed m separator s i =
+    upto-then P s i _ (blanks s i) (λ _ j e.
+    upto-then P s j afterRule (rule m separator s j) (λ r k f.
+    let h = places-rise m separator s j k r f in
+    let w : OfRule (UpTo (length s)) r = (omega (arith, h .0, past-one (rule-local m separator) f), items-placed (length s) j k (r .1) (h .2) (h .1)) in
+    upto-then P s k _ (blanks s k) (λ _ l g. upto-then P s l _ (must next s l) (λ n q o. w))))
+  where
+    P : Rule × Next → ℕ → Type 0
+    P x k = OfRule (UpTo (length s)) (x .0)
+
+-- from the place i on there are no more records than bytes, and a break or a refusal is at a place of the text
 abbrev Bounded : ℕ → ℕ → Read (List Rule × Unit {0}) → Type 0
-Bounded n i (got l j) = i + length (records (l .0)) ≤ n
+Bounded n i (got l j) = (i + length (records (l .0)) ≤ n) × Broken (UpTo n) (rulesBreak (l .0))
 Bounded n i none = Unit {0}
 Bounded n i (refused k p) = p ≤ n
 
 module _ (m : Manner) (s : List ℕ) where
   -- a rule more
-  bounded-more : (r : Rule) (i j : ℕ) → i + suc (length (r .1)) ≤ j → (x : Read (List Rule × Unit {0})) → Bounded (length s) j x → Bounded (length s) i (follow s j x (λ l. pure (before r l)) nothing)
-  bounded-more r i j h (got l k) b = omega (arith, records-more r (l .0))
-  bounded-more r i j h none b = tt
-  bounded-more r i j h (refused e p) b = b
+  bounded-more : (r : Rule) (i j : ℕ) → i + suc (length (r .1)) ≤ j → OfRule (UpTo (length s)) r → (x : Read (List Rule × Unit {0})) → Bounded (length s) j x → Bounded (length s) i (follow s j x (λ l. pure (before r l)) nothing)
+  bounded-more r i j h w (got l k) b = (omega (arith, records-more r (l .0), b .0), more-broken (UpTo (length s)) r (l .0) w (b .1))
+  bounded-more r i j h w none b = tt
+  bounded-more r i j h w (refused e p) b = b
 
   -- no rule more
   finished : (n i : ℕ) → i ≤ length s → Bounded (length s) i (follow s i (moreRules m Finished s i) (λ c. map (before (c .0)) (chainIn n (moreRules m) noMore (c .1))) (map last (noMore Finished)))
   unfolding moreRules noMore
-  finished n i h = omega (arith, records-none)
+  finished n i h = (omega (arith, records-none), none-broken (UpTo (length s)))
 
   bounded : (n : ℕ) (x : Next) (i : ℕ) → i ≤ length s → Bounded (length s) i (chainIn n (moreRules m) noMore x s i)
   unfolding chainIn noMore
   bounded zero x i h = tt
-  bounded (suc n) (Another q) i h = go (λ y j w. bounded n y j w) (moreRules m (Another q) s i) (takes m (Another q) s i) (more-takes m q s i) (more-near m (Another q) s i h)
+  bounded (suc n) (Another q) i h = go (λ y j w. bounded n y j w) (moreRules m (Another q) s i) (takes m (Another q) s i) (more-takes m q s i) (more-placed m q s i) (more-near m (Another q) s i h)
     where
       go : ((y : Next) (j : ℕ) → j ≤ length s → Bounded (length s) j (chainIn n (moreRules m) noMore y s j)) →
-          (r : Read (Rule × Next)) → Ends (λ j. (i < j) × (j ≤ length s)) r → Upto (λ x k. i + suc (length (x .0 .1)) ≤ k) r → Near (length s) r →
+          (r : Read (Rule × Next)) → Ends (λ j. (i < j) × (j ≤ length s)) r → Upto (λ x k. i + suc (length (x .0 .1)) ≤ k) r → Upto (λ x k. OfRule (UpTo (length s)) (x .0)) r → Near (length s) r →
           Bounded (length s) i (follow s i r (λ c. map (before (c .0)) (chainIn n (moreRules m) noMore (c .1))) (map last (noMore (Another q))))
-      go later (got c j) e f w = bounded-more (c .0) i j f (chainIn n (moreRules m) noMore (c .1) s j) (later (c .1) j (e .1))
-      go later none e f w = tt
-      go later (refused k p) e f w = w
+      go later (got c j) e f o w = bounded-more (c .0) i j f o (chainIn n (moreRules m) noMore (c .1) s j) (later (c .1) j (e .1))
+      go later none e f o w = tt
+      go later (refused k p) e f o w = w
   bounded (suc n) Finished i h = finished n i h
 
   -- the rules of a text
@@ -90,7 +123,21 @@ module _ (m : Manner) (s : List ℕ) where
 
   -- the records of a text are at most its bytes
   pub records-few : (p : ℕ) {l : List Rule × Unit {0}} {j : ℕ} → p ≤ length s → rules m s p ≡ got l j → p + length (records (l .0)) ≤ length s
-  records-few p {l} h e = subst (Bounded (length s) p) e (rules-bounded p h)
+  records-few p {l} h e = subst (Bounded (length s) p) e (rules-bounded p h) .0
+
+  -- the rules of a text that are judged
+  judged-bounded : (p : ℕ) → p ≤ length s → Bounded (length s) p (judgedRules m s p)
+  unfolding judgedRules
+  judged-bounded p h = go (rules m s p) (rules-bounded p h)
+    where
+      unbroken-bounded : (l : List Rule × Unit {0}) (j : ℕ) → Bounded (length s) p (got l j) → (b : Break) → Broken (UpTo (length s)) b → Bounded (length s) p (unbroken l b s j)
+      unbroken-bounded l j h Nowhere w = h
+      unbroken-bounded l j h (At k q) w = w
+
+      go : (x : Read (List Rule × Unit {0})) → Bounded (length s) p x → Bounded (length s) p (follow s p x (λ l. unbroken l (judgedBy m (rulesBreak (l .0)))) nothing)
+      go (got l j) h = unbroken-bounded l j h (judgedBy m (rulesBreak (l .0))) (judged-broken (UpTo (length s)) m (rulesBreak (l .0)) (h .1))
+      go none h = h
+      go (refused k q) h = h
 
 -- ---- answers
 
@@ -107,14 +154,14 @@ refusal-small number place h = record { place = h; records = omega arith; warnin
 -- a text's
 pub text-small : (m : Manner) (s : List ℕ) (p n : ℕ) → length s ≤ 4096 → p ≤ length s → Small (textOf m s p n .0)
 unfolding textOf
-text-small m s p n small h = go (rules m s p) (rules-bounded m s p h)
+text-small m s p n small h = go (judgedRules m s p) (judged-bounded m s p h)
   where
     full : (l : List (List ℤ)) → length l ≤ 4096 → (b : Bool) → Small ((if b then refusal 10 p else (answerOf 0 0 (length l) (warningsOf (drop p s)), l)) .0)
     full l k true = refusal-small 10 p (omega arith)
     full l k false = record { place = omega arith; records = k; warnings = omega (arith, warnings-few false false (drop p s), length-drop p s) }
 
     go : (x : Read (List Rule × Unit {0})) → Bounded (length s) p x → Small (judgedText s p n x .0)
-    go (got l j) b = full (records (l .0)) (omega arith) (ltb (n / 16) (length (records (l .0))))
+    go (got l j) b = full (records (l .0)) (omega (arith, b .0)) (ltb (n / 16) (length (records (l .0))))
     go none b = refusal-small 3 p (omega arith)
     go (refused k q) b = refusal-small k q (omega arith)
 

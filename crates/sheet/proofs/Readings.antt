@@ -20,7 +20,7 @@ use Rattle.records.specs.Words.{wordsOf}
 use Rattle.items.specs.Kinds.{Placed}
 use Rattle.rules.specs.Rules.{Rule}
 use Rattle.sheet.specs.Heads.{itemRecord}
-use Rattle.sheet.specs.Texts.{rules, ruleRecords, records}
+use Rattle.sheet.specs.Texts.{judgedRules, ruleRecords, records}
 use Rattle.sheet.specs.Warnings.{warningsOf}
 use Rattle.sheet.specs.Into.{rulesInto, into}
 use Rattle.sheet.specs.Sheets.{answerOf, refusal, judgedText, textOf, writtenAs, sheetBy, wordsIn}
@@ -59,7 +59,7 @@ held-none n = record { many = refl; long = tt; room = omega arith }
 -- those of a text
 text-held : (m : Manner) (s : List ℕ) (p n : ℕ) → Held n (textOf m s p n .0 .records) (textOf m s p n .1)
 unfolding textOf
-text-held m s p n = go (rules m s p)
+text-held m s p n = go (judgedRules m s p)
   where
     all : (l : List Rule) (full : Bool) → ltb (n / 16) (length (records l)) ≡ full →
         Held n ((if full then refusal 10 p else (answerOf 0 0 (length (records l)) (warningsOf (drop p s)), records l)) .0 .records) ((if full then refusal 10 p else (answerOf 0 0 (length (records l)) (warningsOf (drop p s)), records l)) .1)
@@ -96,7 +96,7 @@ sheet-held m s n = either (λ (r : Answer × List (List ℤ)). Held n (r .0 .rec
 pub record Kept (m : Manner) (t t′ : Tables) (s : List ℕ) (p n : ℕ) : Type 0 where
   pub list : List Rule
   pub end : ℕ
-  pub is : rules m s p ≡ got (list, tt) end
+  pub is : judgedRules m s p ≡ got (list, tt) end
   pub many : n ≡ length (records list)
   pub all : t′ ≡ allKept t 0 (records list)
 
@@ -106,9 +106,9 @@ module _ (m : Manner) (s : List ℕ) (p : ℕ) where
 
   -- counted, and not refused
   pub kept-is : (t t′ : Tables) {n j : ℕ} → rulesInto m t s p ≡ got (n, t′) j → Kept m t t′ s p n
-  kept-is t t′ {n} {j} = go (rules m s p) refl
+  kept-is t t′ {n} {j} = go (judgedRules m s p) refl
     where
-      go : (x : Rules) → rules m s p ≡ x → follow {B = ℕ × Tables} s p x (λ l. pure (length (records (l .0)), allKept t 0 (records (l .0)))) nothing ≡ got (n, t′) j → Kept m t t′ s p n
+      go : (x : Rules) → judgedRules m s p ≡ x → follow {B = ℕ × Tables} s p x (λ l. pure (length (records (l .0)), allKept t 0 (records (l .0)))) nothing ≡ got (n, t′) j → Kept m t t′ s p n
       go (got l k) e f =
           let v : _≡_ {A = ℕ × Tables} (length (records (l .0)), allKept t 0 (records (l .0))) (n, t′) = cc in
           record { list = l .0; end = k; is = e; many = sym (ap (λ (y : ℕ × Tables). y .0) v); all = sym (ap (λ (y : ℕ × Tables). y .1) v) }
@@ -118,7 +118,7 @@ module _ (m : Manner) (s : List ℕ) (p : ℕ) where
   -- a refusal
   pub text-refused : (t u : Tables) (size : ℕ) {k q : ℕ} → rulesInto m t s p ≡ refused k q → (refusal k q .0, u) ≡ into u (textOf m s p size)
   unfolding textOf allKept
-  text-refused t u size {k} {q} = go (rules m s p)
+  text-refused t u size {k} {q} = go (judgedRules m s p)
     where
       go : (x : Rules) → follow {B = ℕ × Tables} s p x (λ l. pure (length (records (l .0)), allKept t 0 (records (l .0)))) nothing ≡ refused k q → (refusal k q .0, u) ≡ into u (judgedText s p size x)
       go (got l j) e = cc

@@ -7,16 +7,17 @@ use Rattle.names.specs.Read.{Reader, map}
 use Rattle.names.specs.declared.Manner.{Manner}
 use Rattle.records.specs.Tables.{Tables, allKept}
 use Rattle.rules.specs.Rules.{rule}
-use Rattle.rules.specs.declared.Head.{Head}
-use Rattle.sheet.specs.Texts.{rules, ruleRecords, records}
+use Rattle.house.specs.Breaks.{ruleBreak, judgedBy}
+use Rattle.house.specs.declared.Break.{Break}
+use Rattle.sheet.specs.Texts.{judgedRules, ruleRecords, records}
 
--- a rule's head, and the tables with its records from slot k on
-abbrev pub ruleInto : Manner → Tables → ℕ → ℕ → Reader (Head × Tables)
-ruleInto m t k separator = map (λ r. (r .0, allKept t k (ruleRecords r))) (rule m separator)
+-- how many items a rule has and its first break, and the tables with its records from slot k on
+abbrev pub ruleInto : Manner → Tables → ℕ → ℕ → Reader ((ℕ × Break) × Tables)
+ruleInto m t k separator = map (λ r. ((length (r .1), judgedBy m (ruleBreak r)), allKept t k (ruleRecords r))) (rule m separator)
 
 -- how many records the rules of a text have, and the tables with them
 abbrev pub rulesInto : Manner → Tables → Reader (ℕ × Tables)
-rulesInto m t = map (λ l. (length (records (l .0)), allKept t 0 (records (l .0)))) (rules m)
+rulesInto m t = map (λ l. (length (records (l .0)), allKept t 0 (records (l .0)))) (judgedRules m)
 
 -- what a reading answers, and the tables with its records
 abbrev pub into : {A : Type 0} → Tables → A × List (List ℤ) → A × Tables

@@ -6,5 +6,6 @@ pub mod Sheets
 pub mod Parts
 pub mod PartReadings
 pub mod Editions
+pub mod Houses
 pub mod Notes
 pub mod Seen

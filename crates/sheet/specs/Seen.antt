@@ -7,30 +7,40 @@ use lib.ListN.{getD, drop}
 use Rattle.names.specs.Tests.{within}
 use Rattle.names.specs.Read.{Read, got, refused}
 use Rattle.records.specs.Tables.{Tables}
-use Rattle.rules.specs.declared.Head.{Head}
 use Rattle.rules.specs.declared.Next.{Next}
-use Rattle.rules.specs.declared.RuleRead.{RuleRead}
-use Rattle.rules.specs.declared.RuleRead.the-variants as rule
+use Rattle.house.specs.declared.Break.{Break}
+use Rattle.sheet.specs.Texts.{unbroken}
 use Rattle.sheet.specs.Warnings.{isLetter, warningsIn}
+use Rattle.sheet.specs.declared.RuleRead.{RuleRead}
+use Rattle.sheet.specs.declared.RuleRead.the-variants as rule
 use Rattle.sheet.specs.declared.Parted.{Parted}
 use Rattle.sheet.specs.declared.Parted.the-variants as parted
 use Rattle.sheet.specs.declared.Counted.{Counted}
 use Rattle.sheet.specs.declared.Counted.the-variants as counted
 
--- how many items a rule has, and what parts it from the next
-abbrev pub seenParted : Parted → Read (ℕ × Next)
-seenParted (parted.Got items next c) = got (items, next) (c .at)
+-- how many items a rule has, and its first break
+abbrev pub seenRule : RuleRead → Read (ℕ × Break)
+seenRule (rule.Got items first c) = got (items, first) (c .at)
+seenRule (rule.Refused k p) = refused k p
+
+-- the same, and what parts it from the next
+abbrev pub seenParted : Parted → Read ((ℕ × Break) × Next)
+seenParted (parted.Got items first next c) = got ((items, first), next) (c .at)
 seenParted (parted.Refused k p) = refused k p
 
--- a rule's head, and the tables afterwards
-abbrev pub seenRuleInto : RuleRead → Tables → Read (Head × Tables)
-seenRuleInto (rule.Got h c) t = got (h, t) (c .at)
+-- the same of a rule, and the tables afterwards
+abbrev pub seenRuleInto : RuleRead → Tables → Read ((ℕ × Break) × Tables)
+seenRuleInto (rule.Got items first c) t = got ((items, first), t) (c .at)
 seenRuleInto (rule.Refused k p) t = refused k p
 
 -- how many records the rules of a text have, and the tables afterwards
 abbrev pub seenRulesInto : Counted → Tables → Read (ℕ × Tables)
 seenRulesInto (counted.Got n c) t = got (n, t) (c .at)
 seenRulesInto (counted.Refused k p) t = refused k p
+
+-- what rules with n records and this first break, up to the place i, come to
+abbrev pub ComesTo : ℕ → Break → ℕ → Counted → Type 0
+ComesTo n first i r = (s : List ℕ) (t : Tables) → unbroken (n, t) first s i ≡ seenRulesInto r t
 
 -- a capital, a small letter and no letter behind them
 unfoldable pub shortCapital : List ℕ → Bool

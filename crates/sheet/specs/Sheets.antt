@@ -11,7 +11,7 @@ use Rattle.names.specs.declared.Manner.{Manner}
 use Rattle.names.specs.declared.Manner.the-variants.{First}
 use Rattle.rules.specs.Rules.{Rule}
 use Rattle.records.specs.Tables.{Layout, asWords, asBytes, laid}
-use Rattle.sheet.specs.Texts.{rules, records}
+use Rattle.sheet.specs.Texts.{judgedRules, records}
 use Rattle.sheet.specs.Warnings.{warningsOf}
 use Rattle.sheet.specs.declared.Answer.{Answer}
 
@@ -37,7 +37,7 @@ judgedText s p n (refused k q) = refusal k q
 
 -- the answer and the records of the text from place p on to the end of s, for a table of n words
 unfoldable pub textOf : Manner → List ℕ → ℕ → ℕ → Answer × List (List ℤ)
-textOf m s p n = judgedText s p n (rules m s p)
+textOf m s p n = judgedText s p n (judgedRules m s p)
 
 -- the answer and the records of a sheet: one of over 4,096 bytes is not read
 unfoldable pub sheetBy : Manner → List ℕ → ℕ → Answer × List (List ℤ)

@@ -3,7 +3,7 @@ use Prim.Native.Nat.{ℕ}
 use mathlib.Core.List.{List, [], _∷_, _++_, map}
 use lib.IntN.{ℤ}
 use Rattle.names.specs.declared.Manner.{Manner}
-use Rattle.names.specs.Read.{Reader, nothing, pure, _>>=_, _>>_}
+use Rattle.names.specs.Read.{Reader, nothing, pure, refuse, _>>=_, _>>_}
 use Rattle.names.specs.Chain.{chain}
 use Rattle.names.specs.Texts.{blanks}
 use Rattle.items.specs.Musts.{must}
@@ -11,6 +11,9 @@ use Rattle.rules.specs.Separators.{next}
 use Rattle.rules.specs.Rules.{Rule, rule}
 use Rattle.rules.specs.declared.Next.{Next}
 use Rattle.rules.specs.declared.Next.the-variants.{Another, Finished}
+use Rattle.house.specs.Breaks.{judgedBy, rulesBreak}
+use Rattle.house.specs.declared.Break.{Break}
+use Rattle.house.specs.declared.Break.the-variants.{Nowhere, At}
 use Rattle.sheet.specs.Heads.{headWords, itemRecord}
 
 -- the blanks after a rule, and what parts it from the next
@@ -41,6 +44,17 @@ noMore Finished = pure tt
 -- the rules of a text: the first has the separator 0
 unfoldable pub rules : Manner → Reader (List Rule × Unit {0})
 rules m = chain (moreRules m) noMore (Another 0)
+
+-- what the first break of the house profile comes to: it refuses, and where there is none the value stays
+abbrev pub unbroken : {A : Type 0} → A → Break → Reader A
+unbroken a Nowhere = pure a
+unbroken a (At k p) = refuse k p
+
+-- the rules of a text, a house sheet's judged when all are read
+unfoldable pub judgedRules : Manner → Reader (List Rule × Unit {0})
+judgedRules m = do
+  l ← rules m
+  unbroken l (judgedBy m (rulesBreak (l .0)))
 
 -- a rule's records: its head comes first, then its items in reading order
 abbrev pub ruleRecords : Rule → List (List ℤ)

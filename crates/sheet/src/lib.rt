@@ -1,6 +1,7 @@
 // A whole sheet, and its parts.
 mod editions;
 mod heads;
+mod houses;
 mod notes;
 mod part_readings;
 mod parts;
@@ -9,6 +10,11 @@ mod sheets;
 mod texts;
 mod warnings;
 
+use house::Break;
+pub use houses::read_house_part;
+pub use houses::read_house_part_bytes;
+pub use houses::read_house_sheet;
+pub use houses::read_house_sheet_bytes;
 use names::Cursor;
 use names::Manner;
 pub use notes::note;
@@ -55,9 +61,15 @@ pub struct NotePart {
     pub to: usize,
 }
 
-// What reading a rule and what parts it from the next finds: how many items it has, what follows and where; or a refusal with its number and place.
+// What reading a rule finds: how many items it has, its first break of the house profile and the place after it; or a refusal with its number and place.
+pub enum RuleRead {
+    Got(usize, Break, Cursor),
+    Refused(u8, usize),
+}
+
+// The same of a rule and what parts it from the next: also what follows.
 pub enum Parted {
-    Got(usize, Next, Cursor),
+    Got(usize, Break, Next, Cursor),
     Refused(u8, usize),
 }
 

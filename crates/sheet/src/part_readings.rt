@@ -72,7 +72,7 @@ fn part_into(
 }
 
 // The part that begins at a place is read into a table of words, in a manner.
-fn part_words(sheet: &[u8], m: Manner, place: usize, table: &mut [i32]) -> PartAnswer
+pub fn part_words(sheet: &[u8], m: Manner, place: usize, table: &mut [i32]) -> PartAnswer
     ensures { λ r. ⌜ (r, now (table .exit)) ≡ parts.partReadingBy m (now (sheet .entry)) place (now (table .entry)) ⌝ }
 {
     let mut none = [0u8; 0];
@@ -80,7 +80,7 @@ fn part_words(sheet: &[u8], m: Manner, place: usize, table: &mut [i32]) -> PartA
 }
 
 // The part that begins at a place is read into a table of bytes, in a manner.
-fn part_bytes(sheet: &[u8], m: Manner, place: usize, table: &mut [u8]) -> PartAnswer
+pub fn part_bytes(sheet: &[u8], m: Manner, place: usize, table: &mut [u8]) -> PartAnswer
     ensures { λ r. ⌜ (r, now (table .exit)) ≡ parts.partReadingBytesBy m (now (sheet .entry)) place (now (table .entry)) ⌝ }
 {
     let mut none = [0i32; 0];

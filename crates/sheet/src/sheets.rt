@@ -109,7 +109,7 @@ pub fn sheet_into(
 }
 
 // A sheet is read into a table of words, in a manner.
-fn sheet_words(sheet: &[u8], m: Manner, table: &mut [i32]) -> Answer
+pub fn sheet_words(sheet: &[u8], m: Manner, table: &mut [i32]) -> Answer
     ensures { λ r. ⌜ (r, now (table .exit)) ≡ sheets.sheetReadingBy m (now (sheet .entry)) (now (table .entry)) ⌝ }
 {
     let mut none = [0u8; 0];
@@ -117,7 +117,7 @@ fn sheet_words(sheet: &[u8], m: Manner, table: &mut [i32]) -> Answer
 }
 
 // A sheet is read into a table of bytes, in a manner.
-fn sheet_bytes(sheet: &[u8], m: Manner, table: &mut [u8]) -> Answer
+pub fn sheet_bytes(sheet: &[u8], m: Manner, table: &mut [u8]) -> Answer
     ensures { λ r. ⌜ (r, now (table .exit)) ≡ sheets.sheetReadingBytesBy m (now (sheet .entry)) (now (table .entry)) ⌝ }
 {
     let mut none = [0i32; 0];

@@ -3,31 +3,32 @@ ghost use Prim.Native.Nat.{_≤_};
 ghost use mathlib.Core.Path.{_≡_};
 ghost use lib.ListN.{length};
 ghost use Rattle.names.specs.Read.{follow, nothing};
-ghost use Rattle.rules.specs.Seen.{seenRule};
 ghost use Rattle.sheet.specs.Texts.{afterRule};
 ghost use Rattle.sheet.specs.Into.{rulesInto};
-ghost use Rattle.sheet.specs.Seen.{seenParted, seenRulesInto};
+ghost use Rattle.sheet.specs.Seen.{seenRule, seenParted, seenRulesInto, ComesTo};
 use crate::Counted;
 use crate::Parted;
+use crate::RuleRead;
 use crate::rule::fill_rule;
+use house::Break;
+use house::first_of;
 use items::missing;
 use names::Cursor;
 use names::Manner;
 use rules::Next;
 use rules::NextRead;
-use rules::RuleRead;
 use rules::next_rule;
 
 // The blanks after a rule that was read, and what parts it from the next.
 pub fn parted(s: &[u8], r: RuleRead) -> Parted
-    ensures { λ x. ⌜ follow (now (s .entry)) 0 (seenRule r) (λ h. afterRule (h .items)) nothing ≡ seenParted x ⌝ }
+    ensures { λ x. ⌜ follow (now (s .entry)) 0 (seenRule r) afterRule nothing ≡ seenParted x ⌝ }
 {
     match r {
-        RuleRead::Got(h, d) => {
+        RuleRead::Got(items, first, d) => {
             let e = d.blanks(s);
             let after = next_rule(s, e);
             match after {
-                NextRead::Got(n, f) => Parted::Got(h.items, n, f),
+                NextRead::Got(n, f) => Parted::Got(items, first, n, f),
                 NextRead::Missing => {
                     let lack = missing(s, e);
                     Parted::Refused(lack.number, lack.place)
@@ -38,7 +39,17 @@ pub fn parted(s: &[u8], r: RuleRead) -> Parted
     }
 }
 
-// The rules of the text from place p on are read: how many records they have and the place after them, or their refusal. The records go into both tables, each where the table has its slot.
+// What rules with n records, up to c, come to: the first break refuses them when all are read.
+fn counted(n: usize, first: Break, c: Cursor) -> Counted
+    ensures { λ r. ⌜ ComesTo n first (c .at) r ⌝ }
+{
+    match first {
+        Break::Nowhere => Counted::Got(n, c),
+        Break::At(k, p) => Counted::Refused(k, p),
+    }
+}
+
+// The rules of the text from place p on are read and judged: how many records they have and the place after them, or their refusal. The records go into both tables, each where the table has its slot.
 pub fn fill_rules(s: &[u8], m: Manner, p: usize, words: &mut [i32], bytes: &mut [u8]) -> Counted
     requires { ⌜ length (now s) ≤ 4096 ⌝ }
     ensures { λ r. ⌜ rulesInto m (now (words .entry), now (bytes .entry)) (now (s .entry)) p ≡ seenRulesInto r (now (words .exit), now (bytes .exit)) ⌝ }
@@ -46,14 +57,16 @@ pub fn fill_rules(s: &[u8], m: Manner, p: usize, words: &mut [i32], bytes: &mut 
     let mut slot: usize = 0;
     let mut at = p;
     let mut separator: u8 = 0;
+    let mut broken = Break::Nowhere;
     loop {
         let c = Cursor { at }.blanks(s);
         let r = parted(s, fill_rule(s, m, c, separator, words, bytes, slot));
         match r {
-            Parted::Got(items, behind, d) => {
+            Parted::Got(items, first, behind, d) => {
                 slot += items + 1;
+                broken = first_of(broken, first);
                 let Next::Another(k) = behind else {
-                    return Counted::Got(slot, d);
+                    return counted(slot, broken, d);
                 };
                 separator = k;
                 at = d.at;

@@ -6,7 +6,7 @@ use mathlib.Core.Path.{refl}
 use native.Mathlib.Omega.{arith}
 use Rattle.names.specs.Names.{event}
 use Rattle.names.specs.declared.Manner.{Manner}
-use Rattle.names.specs.declared.Manner.the-variants.{First, Second}
+use Rattle.names.specs.declared.Manner.the-variants.{First, Second, House}
 use Rattle.names.proofs.Local.{loose, free, pure-local, then-local, or-local}
 use Rattle.names.proofs.Cut.{byte-local, hour-local, minute-local, minutes-local}
 use Rattle.names.proofs.NameCut.{name-local}
@@ -69,6 +69,7 @@ meaning-refuses m r = refuses-if (not (goodSpan r)) (Refused 4) (spanOf m r) (om
   where
     go : (m : Manner) (r : RawSpan) → Refuses (spanOf m r)
     go First (Alone t) = omega arith
+    go House (Alone t) = omega arith
     go Second (Alone t) = tt
     go m (Open t) = tt
     go m (Until a b t) = tt

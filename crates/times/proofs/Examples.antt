@@ -15,12 +15,12 @@ use Rattle.records.specs.Items.{signed}
 use Rattle.records.specs.declared.Item.{Item}
 use Rattle.records.specs.declared.Item.the-variants.{Times}
 use Rattle.records.specs.declared.Time.{Time}
-use Rattle.records.specs.declared.Time.the-variants.{Fixed, Sun}
+use Rattle.records.specs.declared.Time.the-variants.{Fixed, Dawn, Sunrise, Sunset, Dusk}
 use Rattle.records.specs.declared.Repeat.{Repeat}
 use Rattle.records.specs.declared.Repeat.the-variants.{Never, Every}
 use Rattle.times.specs.Times.{clock, moved, movedEvent, rawTime}
 use Rattle.times.specs.Spans.{repeated, tail, untilTime, spanBehind, spanShape, timeItem}
-use Rattle.times.specs.Meanings.{dayClock, endClock, repeatClock, spanMeaning}
+use Rattle.times.specs.Meanings.{eventOf, dayClock, endClock, repeatClock, spanMeaning}
 
 -- a span of times
 span : Time → Time → Repeat → Bool → Item
@@ -34,12 +34,12 @@ point t = Times (record { start = t; end = t; repeats = Never; plus = false; poi
 spans : List (String × (ℕ × Read Item))
 spans =
     ("10:00+", (0, got (span (Fixed 600) (Fixed 1440) Never true) 6))
-    ∷ ("sunrise+", (0, got (span (Sun 2 (signed false 0)) (Fixed 1440) Never true) 8))
+    ∷ ("sunrise+", (0, got (span (Sunrise (signed false 0)) (Fixed 1440) Never true) 8))
     ∷ ("10:00-12:00+", (0, got (span (Fixed 600) (Fixed 720) Never true) 12))
     ∷ ("10:00-48:00", (0, got (span (Fixed 600) (Fixed 2880) Never false) 11))
     ∷ ("10:00-0:00", (0, got (span (Fixed 600) (Fixed 0) Never false) 10))
     ∷ ("24:00-26:00", (0, got (span (Fixed 1440) (Fixed 1560) Never false) 11))
-    ∷ ("(dawn-1:30)-(dusk+0:15)", (0, got (span (Sun 1 (signed true 90)) (Sun 4 (signed false 15)) Never false) 23))
+    ∷ ("(dawn-1:30)-(dusk+0:15)", (0, got (span (Dawn (signed true 90)) (Dusk (signed false 15)) Never false) 23))
     ∷ ("10:00-12:00/23:59", (0, got (span (Fixed 600) (Fixed 720) (Every 1439) false) 17))
     ∷ ("10:00-12:00/00", (0, got (span (Fixed 600) (Fixed 720) (Every 0) false) 14))
     ∷ ("10:00-12:00/1:3", (0, got (span (Fixed 600) (Fixed 720) Never false) 11))
@@ -56,7 +56,7 @@ spans =
     ∷ []
 
 spans-right : map (λ e. timeItem First (bytes (e .0)) (e .1 .0)) spans ≡ map (λ e. e .1 .1) spans
-unfolding spans span timeItem spanShape spanBehind untilTime tail repeated rawTime movedEvent moved clock spanMeaning dayClock endClock repeatClock
+unfolding spans span timeItem spanShape spanBehind untilTime tail repeated rawTime movedEvent moved clock eventOf spanMeaning dayClock endClock repeatClock
     number digits upTo digit isDigit within clockBehind skip many chain chainIn byte one ahead name word firstOf names allOf letter spelledSo lower
 spans-right = refl
 
@@ -65,13 +65,13 @@ points : List (String × Read Item)
 points =
     ("10:00", got (point (Fixed 600)) 5)
     ∷ ("24:00", got (point (Fixed 1440)) 5)
-    ∷ ("(sunset-0:30)", got (point (Sun 3 (signed true 30))) 13)
+    ∷ ("(sunset-0:30)", got (point (Sunset (signed true 30))) 13)
     ∷ ("10:00-10:00", got (span (Fixed 600) (Fixed 600) Never false) 11)
     ∷ ("10:00/30", got (point (Fixed 600)) 5)
     ∷ ("10:60", refused 4 0)
     ∷ []
 
 points-right : map (λ e. timeItem Second (bytes (e .0)) 0) points ≡ map (λ e. e .1) points
-unfolding points point span timeItem spanShape spanBehind untilTime tail repeated rawTime movedEvent moved clock spanMeaning dayClock endClock repeatClock
+unfolding points point span timeItem spanShape spanBehind untilTime tail repeated rawTime movedEvent moved clock eventOf spanMeaning dayClock endClock repeatClock
     number digits upTo digit isDigit within clockBehind skip many chain chainIn byte one ahead name word firstOf names allOf letter spelledSo lower
 points-right = refl

@@ -6,8 +6,9 @@ use lib.Dec.{leb, eqb}
 use Rattle.names.specs.Tests.{if_then_else_}
 use Rattle.names.specs.Refusals.{pointInTime, range}
 use Rattle.names.specs.declared.Manner.{Manner}
-use Rattle.names.specs.declared.Manner.the-variants.{First, Second}
+use Rattle.names.specs.declared.Manner.the-variants.{First, Second, House}
 use Rattle.records.specs.Items.{signed}
+use Rattle.records.specs.declared.Signed.{Signed}
 use Rattle.records.specs.declared.Time.{Time}
 use Rattle.records.specs.declared.Time.the-variants as time
 use Rattle.records.specs.declared.Repeat.{Repeat}
@@ -62,10 +63,14 @@ goodSpan (Alone t) = goodStart t
 goodSpan (Open t) = goodStart t
 goodSpan (Until a b t) = goodStart a && goodEnd b && goodTail t
 
+-- an event by its number in the table of names: 1 dawn, 2 sunrise, 3 sunset, 4 dusk
+unfoldable pub eventOf : ℕ → Signed → Time
+eventOf e m = if eqb e 1 then time.Dawn m else if eqb e 2 then time.Sunrise m else if eqb e 3 then time.Sunset m else time.Dusk m
+
 -- a clock time in minutes, or an event with minutes added or taken off
 abbrev pub timeOf : RawTime → Time
 timeOf (Fixed c) = time.Fixed (minutesOf c)
-timeOf (Sun e less c) = time.Sun e (signed less (minutesOf c))
+timeOf (Sun e less c) = eventOf e (signed less (minutesOf c))
 
 -- the repeat
 abbrev pub repeatOf : RawTail → Repeat
@@ -81,9 +86,10 @@ plusOf Plus = true
 plusOf (Minutes m) = false
 plusOf (Hours c) = false
 
--- what a time alone is: a point in time, refused by the first edition, a span that ends where it starts in the second
+-- what a time alone is: a point in time, refused by the first edition and in a house sheet, a span that ends where it starts in the second edition
 abbrev pub aloneOf : Manner → RawTime → Meant
 aloneOf First t = Refused pointInTime
+aloneOf House t = Refused pointInTime
 aloneOf Second t = Is (Times (record { start = timeOf t; end = timeOf t; repeats = Never; plus = false; point = true }))
 
 -- what a span in range is

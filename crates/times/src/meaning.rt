@@ -104,6 +104,22 @@ fn good_span(r: RawSpan) -> bool
     }
 }
 
+// An event by its number, with minutes added or taken off.
+fn event_of(e: u8, minutes: Signed) -> Time
+    ensures { λ r. ⌜ r ≡ meanings.eventOf e minutes ⌝ }
+{
+    if e == 1 {
+        return Time::Dawn(minutes);
+    }
+    if e == 2 {
+        return Time::Sunrise(minutes);
+    }
+    if e == 3 {
+        return Time::Sunset(minutes);
+    }
+    Time::Dusk(minutes)
+}
+
 // A clock time in minutes, or an event with minutes added or taken off.
 fn time_of(t: RawTime) -> Time
     ensures { λ r. ⌜ r ≡ meanings.timeOf t ⌝ }
@@ -112,7 +128,7 @@ fn time_of(t: RawTime) -> Time
         RawTime::Fixed(c) => Time::Fixed(minutes_of(c)),
         RawTime::Sun(e, less, c) => {
             let n = minutes_of(c);
-            Time::Sun(e, Signed { less, n })
+            event_of(e, Signed { less, n })
         }
     }
 }
@@ -141,12 +157,11 @@ fn plus_of(t: RawTail) -> bool
     }
 }
 
-// What a time alone is: refused by the first edition, in the second a span that ends where it starts.
+// What a time alone is: a span that ends where it starts in the second edition, and else refused.
 fn alone_of(m: Manner, t: RawTime) -> Meant
     ensures { λ x. ⌜ x ≡ meanings.aloneOf m t ⌝ }
 {
     match m {
-        Manner::First => Meant::Refused(POINT_IN_TIME),
         Manner::Second => {
             let only = time_of(t);
             Meant::Is(Item::Times(Span {
@@ -157,6 +172,7 @@ fn alone_of(m: Manner, t: RawTime) -> Meant
                 point: true,
             }))
         }
+        _ => Meant::Refused(POINT_IN_TIME),
     }
 }
 

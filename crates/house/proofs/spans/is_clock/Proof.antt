@@ -1,6 +1,7 @@
 -- A clock time is up to 24:00 by its minutes.
 use borrow.Author.Needs.{needs}
 use Rattle.house.specs.Spans.{isClock}
+use Rattle.house.proofs.Laws.{event-is}
 use Rattle.house.proofs.spans.is_clock.Statement.{statement}
 use Rattle.house.proofs.spans.is_clock.Tie as tie
 
@@ -10,6 +11,5 @@ is-clock-spec =
     tie.close
     (tie.spec
     (λ c. search needs)  -- enum-known-t
-    (λ c. search needs)  -- enum-told
     (λ c. rw (c .before .t .given .1))  -- returns
-    (λ c. rw (c .enum-told .given .1)))  -- returns-2
+    (λ c. event-is (c .before .args .t) (c .match .keys2) .0))  -- returns-2

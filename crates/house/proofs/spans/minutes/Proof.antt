@@ -1,6 +1,7 @@
 -- The minutes of a clock time are its number.
 use borrow.Author.Needs.{needs}
 use Rattle.house.specs.Spans.{minutes}
+use Rattle.house.proofs.Laws.{event-is}
 use Rattle.house.proofs.spans.minutes.Statement.{statement}
 use Rattle.house.proofs.spans.minutes.Tie as tie
 
@@ -10,6 +11,5 @@ minutes-spec =
     tie.close
     (tie.spec
     (λ c. search needs)  -- enum-known-t
-    (λ c. search needs)  -- enum-told
     (λ c. rw (c .before .t .given .1))  -- returns
-    (λ c. rw (c .enum-told .given .1)))  -- returns-2
+    (λ c. event-is (c .before .args .t) (c .match .keys2) .1))  -- returns-2

@@ -2,8 +2,9 @@
 use borrow.Author.Needs.{needs}
 use mathlib.Core.Path.{ap, _∙_}
 use Rattle.items.proofs.Quotes.{lack-is}
-use Rattle.rules.specs.Seen.{seenRule, seenNext}
+use Rattle.rules.specs.Seen.{seenNext}
 use Rattle.rules.specs.declared.Next.{Next}
+use Rattle.sheet.specs.Seen.{seenRule}
 use Rattle.sheet.proofs.texts.parted.Statement.{statement}
 use Rattle.sheet.proofs.texts.parted.Tie as tie
 

@@ -1,11 +1,11 @@
 -- A span is judged after what came before; other items change nothing.
 use borrow.Author.Needs.{needs}
 use Rattle.house.proofs.Laws.{other-item}
-use Rattle.house.proofs.House.item.Statement.{statement}
-use Rattle.house.proofs.House.item.Tie as tie
+use Rattle.house.proofs.Judgement.house_item.Statement.{statement}
+use Rattle.house.proofs.Judgement.house_item.Tie as tie
 
-pub item-spec : {M : Type 1} → statement M
-item-spec =
+pub house-item-spec : {M : Type 1} → statement M
+house-item-spec =
     tie.close
     (tie.spec
     (λ c. search needs)  -- enum-known-a
