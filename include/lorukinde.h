@@ -54,7 +54,9 @@ enum {
     LORUKINDE_BROKEN_QUOTE = 12,  /* no shape fits: a quote, and after it another one or none at all; read so far */
     LORUKINDE_ILL_FORMED_COMMENT = 13, /* a comment that is not well-formed UTF-8 (RFC 3629); its first quote */
     LORUKINDE_NO_ANSWER_ROOM = 14, /* of a feed alone: more lines than whole 16-byte groups in the answer table */
-    LORUKINDE_UNKNOWN_EDITION = 19 /* the edition is neither 1 nor 2; 0 */
+    LORUKINDE_UNKNOWN_EDITION = 19, /* the edition is neither 1 nor 2; 0 */
+    LORUKINDE_HOUSE_FORM = 22,    /* form that the house does not allow; the item's first byte, for a separator its rule's */
+    LORUKINDE_HOUSE_ORDER = 23    /* span that ends not after its start, or starts before an earlier one ends; its first byte */
 };
 
 /* Reads a sheet. The number is returned; place, records and warnings are stored.
@@ -82,6 +84,15 @@ uint32_t lorukinde_read_sheet_in(uint32_t edition, const uint8_t *sheet, size_t 
 uint32_t lorukinde_read_part_in(uint32_t edition, const uint8_t *sheet, size_t sheet_len, size_t begin, uint8_t *table,
                                 size_t table_len, uint32_t *place, uint32_t *records, uint32_t *warnings, uint32_t *next,
                                 uint32_t *last);
+
+/* The same for house sheets: edition 1, with the same numbers and records, refusing besides 22: a rule after `,` or `||`; a time
+ * that is a sun event or after 24:00, a repeat, an open end; and 23: a span that ends not after its start, or that starts before an
+ * earlier span of its rule ends (where one ends the next may start). Both come after all of edition 1's refusals of the whole text
+ * but 10, the leftmost first, at one place 22 before 23. */
+uint32_t lorukinde_read_house_sheet(const uint8_t *sheet, size_t sheet_len, uint8_t *table, size_t table_len, uint32_t *place,
+                                    uint32_t *records, uint32_t *warnings);
+uint32_t lorukinde_read_house_part(const uint8_t *sheet, size_t sheet_len, size_t begin, uint8_t *table, size_t table_len,
+                                   uint32_t *place, uint32_t *records, uint32_t *warnings, uint32_t *next, uint32_t *last);
 
 /* Reads a feed: sheets, one a line, parted by byte 10, inside quotes too. A final byte 10 starts no line; an empty feed has none.
  * The number is returned, 0 or 14; how many lines and how many records there are is stored.

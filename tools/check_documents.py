@@ -9,9 +9,9 @@ import os
 import re
 import sys
 
-from reference import bytes_of, chain, line_of, read_feed, read_part, read_sheet
+from reference import HOUSE, bytes_of, chain, line_of, read_feed, read_part, read_sheet
 
-IN_FORCE = {1, 2, 3, 7, 8, 9}
+IN_FORCE = {1, 2, 3, 7, 8, 9, 12}
 CHANGES = (1, 3, 7, 8, 9, 12)  # the Asks after which a sheet or a part is read otherwise
 WORDS = 8192
 NO = [0] * 16
@@ -111,7 +111,7 @@ PARTS = {
 SHEETS = {("Mo;Tu", 32): (10, 0), ("Mo;Tu", 63): (10, 0), ("Mo;Tu", 64): (0, 0), ("Mo", 47): (0, 0), ("Mo;x", 0): (3, 3), ("Mo" + " " * 4094, 32): (0, 0)}
 
 SECTION = re.compile(r"\*\*(\d+\.\d+) ")
-CASE = re.compile(r"- \[(\d+)(/\d)?( part| words| feed)?\] `(.*?)`(?: at (\d+)| answers (\d+) table (\d+))? → \*\*(.*?)\*\*")
+CASE = re.compile(r"- \[(\d+)(/\w+)?( part| words| feed)?\] `(.*?)`(?: at (\d+)| answers (\d+) table (\d+))? → \*\*(.*?)\*\*")
 
 
 def taken(path):
@@ -121,8 +121,8 @@ def taken(path):
         section = m.group(1) if (m := SECTION.match(line)) else section
         m = CASE.match(line)
         if m and {n for n in CHANGES if n <= int(m.group(1))} <= IN_FORCE:
-            ask, edition, call, sheet, *numbers, answer = m.groups(default="")
-            yield section, " ".join([ask + edition + call, *filter(None, numbers)]), sheet, answer.strip()
+            ask, how, call, sheet, *numbers, answer = m.groups(default="")
+            yield section, " ".join([ask + how + call, *filter(None, numbers)]), sheet, answer.strip()
 
 
 def readings_04():
@@ -135,11 +135,12 @@ def said(call, s):
     if "feed" in call:
         number, answers, records = read_feed(s, *map(int, call.split()[2:]))
         return f"{number} {len(answers)} {len(records)}: {' / '.join(map(line_of, answers))}".strip()
-    edition = int(m.group(1)) if (m := re.search(r"/(\d)", call)) else 1
+    named = re.search(r"/(\w+)", call)
+    how = 1 if not named else HOUSE if named.group(1) == HOUSE else int(named.group(1))
     if "part" in call:
-        number, place, records, warned, follows, last = read_part(s, int(call.split()[-1]), WORDS, edition)
+        number, place, records, warned, follows, last = read_part(s, int(call.split()[-1]), WORDS, how)
         return f"{number} {place} {len(records)} {warned} {follows} {'last' if last else 'more'}"
-    number, place, records, warned = read_sheet(s, WORDS, edition)
+    number, place, records, warned = read_sheet(s, WORDS, how)
     if "words" in call:
         return " / ".join(line_of(r) for r in records if r[0] != 1)
     return f"{number} {place} {len(records)} {warned}"

@@ -11,6 +11,8 @@ and the cases of calls that crates/cases does not make, which the Rust tests rep
     python3 tools/reference.py cases tools/cases_ask2.txt > tools/cases_ask2.out
     python3 tools/make_cases.py ask9 > tools/cases_ask9.txt                         editions
     python3 tools/reference.py cases tools/cases_ask9.txt > tools/cases_ask9.out
+    python3 tools/make_cases.py ask12 > tools/cases_ask12.txt                       house sheets
+    python3 tools/reference.py cases tools/cases_ask12.txt > tools/cases_ask12.out
 
 documents.txt has the sheets of the rules and of their readings, readings_04.txt those of document 04 (its form: check_documents.py), specification.txt examples of the OpenStreetMap wiki's pages on opening hours, as far as they are remembered, sample.txt sheets whose answers are
 the Rust's own (tools/oracle/README.md).
@@ -300,6 +302,25 @@ def edition_2():
     return out
 
 
+# ---- house sheets
+SPANS = ["10:00-12:00", "12:00-14:00", "11:59-13:00", "9:00-10:00", "9:00-9:30", "0:00-24:00", "10:00-10:00", "10:00-9:59", "24:00-24:00", "23:59-24:00", "22:00-2:00", "22:00-24:01", "24:00-26:00", "10:00+", "10:00-12:00+", "10:00-12:00/00", "10:00-12:00/0:30", "dawn-12:00", "10:00-dusk", "(sunset-1:00)-24:00", "10:00-(dusk+0:01)"]
+
+
+def house_sheets():
+    """each known sheet, spans after spans, separators, a break of the profile beside another refusal, in the sheet and in its parts; exchanged parts"""
+    out = [line(s, "A", part="h") for s in sheets_04()]
+    out += [line(s, "S", part="h") for s in known("documents.txt") + known("specification.txt")]
+    out += [line(a + "," + b, "S", part="h") for a in SPANS for b in SPANS] + [line(s, "A", part="h") for s in SPANS]
+    out += [line(",".join(x), "S", part="h") for x in [("8:00-9:00", "10:00-11:00", "9:30-9:40"), ("8:00-9:00", "10:00-11:00", "8:30-12:00"), ("8:00-9:00", "9:00-10:00", "10:00-11:00"), ("8:00-20:00", "9:00-10:00", "21:00-22:00")]]
+    rules = ["Mo 10:00-12:00", "x", "", "10:00", "1899", "off", "Mo 10:00+", "Tu 10:00-9:00", "We 9:00-10:00,9:30-11:00"]
+    out += [line(a + j + b, "A", part="h") for a in rules for b in rules for j in (";", "; ", ", ", "||", " || ")]
+    out += [line(s, "A", w, "h") for s in ("10:00+", "10:00-12:00", "Mo 10:00-12:00; Tu", "Mo, Tu") for w in (0, 15, 16, 31, 32, 48, 64, 80)]
+    out += [line(b" " * 4097, "L", part="h"), line(b"10:00+;" * 585, "S", part="h"), line(b",".join(b"%d:%02d-%d:%02d" % (m // 60, m % 60, (m + 1) // 60, (m + 1) % 60) for m in range(0, 340)), "S", 8192, "h")]
+    for one, parts in [("10:00-12:00;%s;Tu off", ("x", "10:00+", "Mo, Tu", "", "9:00-8:00")), ('%s;10:00+,dawn+;"a" ', ("Mo||Tu", "10:00-11:00"))]:
+        out += [line(one % a + "\\x09" + one % b, "Z", 80, "0" if one.startswith("%") else "1") for a in parts for b in parts if a != b]
+    return out
+
+
 # ---- the Rust's own answers
 def sample():
     """the sheets of the sample; its first line says how it was made"""
@@ -312,7 +333,7 @@ ORIGINS = {
     "tables": tables, "blanks": blanks, "odd bytes": odd_bytes, "letters": letters, "quotes": quotes, "long sheets": long_sheets, "exchanges": exchanges, "notes": notes,
     "edition 2's shapes": new_in_2, "the Rust's answers": sample,
 }
-OF_OTHER_CALLS = {"ask2": feeds, "ask9": edition_2}
+OF_OTHER_CALLS = {"ask2": feeds, "ask9": edition_2, "ask12": house_sheets}
 
 
 def main():

@@ -400,14 +400,39 @@ def rules_of(s, edition):
         separator, i = SEPARATORS[m.group()], m.end()
 
 
-def sheet(s, room=512, edition=1):
+# ---- the house profile
+HOUSE = "house"
+HOWS = (*EDITIONS, HOUSE)  # how a text is read: by an edition, or as a house sheet, which is edition 1's
+MIDNIGHT = 1440
+
+
+def house(records):
+    """raises Refused at the leftmost record of an accepted text that the house does not allow; at one place 22 before 23"""
+    latest = 0  # when the rule's earlier spans end
+    for r in records:
+        if r[0] == 1:
+            latest = 0
+            if r[1] != 0:
+                raise Refused(22, r[15])
+        if r[0] == 8:
+            start_kind, start, end_kind, end, again, is_open = r[1:7]
+            if start_kind or end_kind or end > MIDNIGHT or again != -1 or is_open:
+                raise Refused(22, r[15])
+            if end <= start or start < latest:
+                raise Refused(23, r[15])
+            latest = end
+
+
+def sheet(s, room=512, how=1):
     """(number, place, records): the records of a text, or its refusal"""
-    if edition not in EDITIONS:
+    if how not in HOWS:
         return 19, 0, []
     if len(s) > 4096:
         return 1, 0, []
     try:
-        records = rules_of(s, edition)
+        records = rules_of(s, 1 if how == HOUSE else how)
+        if how == HOUSE:
+            house(records)
     except Refused as r:
         return *r.args, []
     return (10, 0, []) if len(records) > room else (0, 0, records)
@@ -433,9 +458,9 @@ def line_of(words):
     return " ".join(str(int(w)) for w in words)
 
 
-def read_sheet(s, words, edition=1):
+def read_sheet(s, words, how=1):
     """(number, place, records, warnings) with a table of so many words"""
-    number, place, records = sheet(s, words // 16, edition)
+    number, place, records = sheet(s, words // 16, how)
     return number, place, records, warnings(s) if number == 0 else 0
 
 
@@ -460,24 +485,24 @@ def moved(record, d):
     return record[:3] + start + record[4:15] + [record[15] + d]
 
 
-def read_part(s, place, words, edition=1):
+def read_part(s, place, words, how=1):
     """(number, place, records, warnings, next, last): the part's text read alone, its places counted from the sheet's start"""
-    if edition not in EDITIONS or len(s) > 4096:
-        return *read_sheet(s, words, edition), 0, True
+    if how not in HOWS or len(s) > 4096:
+        return *read_sheet(s, words, how), 0, True
     ends = dict(parts(s))
     if place not in ends:
         return 2, 0, [], 0, 0, True
     end = ends[place]
-    number, at, records, warned = read_sheet(s[place:end], words, edition)
+    number, at, records, warned = read_sheet(s[place:end], words, how)
     last = end == len(s)
     return number, at + place if number else 0, [moved(r, place) for r in records], warned, 0 if last else end + 1, last
 
 
-def chain(s, words, edition=1):
+def chain(s, words, how=1):
     """each part's reading, from place 0 on by `next`"""
     place, out = 0, []
     while True:
-        out.append((place, read_part(s, place, words, edition)))
+        out.append((place, read_part(s, place, words, how)))
         if out[-1][1][5]:
             return out
         place = out[-1][1][4]
@@ -509,17 +534,17 @@ def shown(reading):
     return [line_of(reading[:2] + (len(reading[2]),) + reading[3:])] + [line_of(r) for r in reading[2]]
 
 
-def sheet_lines(s, words, edition=1):
-    return shown(read_sheet(s, words, edition))
+def sheet_lines(s, words, how=1):
+    return shown(read_sheet(s, words, how))
 
 
-def part_lines(s, words, edition=1):
-    return [line for _, r in chain(s, words, edition) for line in shown(r)]
+def part_lines(s, words, how=1):
+    return [line for _, r in chain(s, words, how) for line in shown(r)]
 
 
-def place_lines(s, words, edition=1):
+def place_lines(s, words, how=1):
     """the places, from 0 to one after the end, where a part begins"""
-    return [" ".join(["B"] + [str(p) for p in range(len(s) + 2) if read_part(s, p, words, edition)[0] != 2])]
+    return [" ".join(["B"] + [str(p) for p in range(len(s) + 2) if read_part(s, p, words, how)[0] != 2])]
 
 
 def still(s, p, r, t, q, w):
@@ -532,9 +557,9 @@ def still(s, p, r, t, q, w):
     return rest(p, r) == rest(q, w) and comments(s, r) == comments(t, w)
 
 
-def exchange_lines(s, t, k, words, edition=1):
+def exchange_lines(s, t, k, words, how=1):
     """a sheet and the same with its part k exchanged: how many of the other parts are read as before, and how many are not"""
-    same = [still(s, p, r, t, q, w) for i, ((p, r), (q, w)) in enumerate(zip(chain(s, words, edition), chain(t, words, edition))) if i != k]
+    same = [still(s, p, r, t, q, w) for i, ((p, r), (q, w)) in enumerate(zip(chain(s, words, how), chain(t, words, how))) if i != k]
     return [f"X {same.count(True)} {same.count(False)}"]
 
 
@@ -558,25 +583,25 @@ def note_lines(s):
 
 def case(raw):
     """A case: four digits for the words of the table; a letter; a byte more; the sheet. For S, P, A and L the byte more is a blank, or the edition as a digit
-    for the calls that take one; for X and Y it is the number of the exchanged part; else a blank.
+    for the calls that take one, or h for a house sheet; for X, Y and Z it is the number of the exchanged part; else a blank.
     S the sheet. P its parts, and the places where they begin. A both. L, for a long sheet, both without the places.
-    X two sheets with byte 9 between them, of which one part differs; Y the same in edition 2. N the notes for some starts and lengths.
+    X two sheets with byte 9 between them, of which one part differs; Y the same in edition 2, Z as house sheets. N the notes for some starts and lengths.
     F four digits for the words of the answer table, and a feed, in which byte 9 stands for byte 10."""
     words, mode, more, s = int(raw[:4]), raw[4:5], raw[5:6], raw[6:]
-    if mode in b"XY":
+    if mode in b"XYZ":
         one, other = s.split(b"\t")
-        return exchange_lines(one, other, int(more), words, 1 if mode == b"X" else 2)
+        return exchange_lines(one, other, int(more), words, {b"X": 1, b"Y": 2, b"Z": HOUSE}[mode])
     if mode == b"N":
         return note_lines(s)
     if mode == b"F":
         return feed_answer_lines(s[4:].replace(b"\t", b"\n"), int(s[:4]), words)
-    edition, out = 1 if more == b" " else int(more), []
+    how, out = 1 if more == b" " else HOUSE if more == b"h" else int(more), []
     if mode in b"SAL":
-        out += sheet_lines(s, words, edition)
+        out += sheet_lines(s, words, how)
     if mode in b"PAL":
-        out += part_lines(s, words, edition)
+        out += part_lines(s, words, how)
     if mode in b"PA":
-        out += place_lines(s, words, edition)
+        out += place_lines(s, words, how)
     return out
 
 

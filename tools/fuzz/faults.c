@@ -1,4 +1,4 @@
-/* Faults planted round the entries, to show that the fuzzer finds them: FAULT=1 to 54 in the environment, 0 for none. Linked with
+/* Faults planted round the entries, to show that the fuzzer finds them: FAULT=1 to 59 in the environment, 0 for none. Linked with
  * -Wl,--wrap for each call (run.sh), so the library itself stays as it is. */
 #include <stdlib.h>
 #include <string.h>
@@ -9,6 +9,8 @@ uint32_t __real_lorukinde_read_sheet(const uint8_t *, size_t, uint8_t *, size_t,
 uint32_t __real_lorukinde_read_part(const uint8_t *, size_t, size_t, uint8_t *, size_t, uint32_t *, uint32_t *, uint32_t *, uint32_t *, uint32_t *);
 uint32_t __real_lorukinde_read_sheet_in(uint32_t, const uint8_t *, size_t, uint8_t *, size_t, uint32_t *, uint32_t *, uint32_t *);
 uint32_t __real_lorukinde_read_part_in(uint32_t, const uint8_t *, size_t, size_t, uint8_t *, size_t, uint32_t *, uint32_t *, uint32_t *, uint32_t *, uint32_t *);
+uint32_t __real_lorukinde_read_house_sheet(const uint8_t *, size_t, uint8_t *, size_t, uint32_t *, uint32_t *, uint32_t *);
+uint32_t __real_lorukinde_read_house_part(const uint8_t *, size_t, size_t, uint8_t *, size_t, uint32_t *, uint32_t *, uint32_t *, uint32_t *, uint32_t *);
 uint32_t __real_lorukinde_read_feed(const uint8_t *, size_t, uint8_t *, size_t, uint8_t *, size_t, size_t *, size_t *);
 uint32_t __real_lorukinde_note(size_t, size_t, int32_t, int32_t, size_t *, size_t *);
 
@@ -95,6 +97,28 @@ uint32_t __wrap_lorukinde_read_part_in(uint32_t edition, const uint8_t *sheet, s
     uint32_t number = __real_lorukinde_read_part_in(edition, sheet, n, begin, table, bytes, place, records, warnings, next, last);
     switch (fault()) {
     case 54: if (number == 19) *last = 0; break;
+    }
+    return number;
+}
+
+uint32_t __wrap_lorukinde_read_house_sheet(const uint8_t *sheet, size_t n, uint8_t *table, size_t bytes, uint32_t *place, uint32_t *records, uint32_t *warnings)
+{
+    if (fault() == 55)
+        return __real_lorukinde_read_sheet(sheet, n, table, bytes, place, records, warnings); /* no profile at all */
+    uint32_t number = __real_lorukinde_read_house_sheet(sheet, n, table, bytes, place, records, warnings);
+    switch (fault()) {
+    case 56: if (number == 22) number = 23; break;
+    case 57: if (number == 23) number = 22; break;
+    case 58: *place -= number == 22 && *place > 1 && sheet[*place - 1] != ','; break; /* the byte before the rule or the item */
+    }
+    return number;
+}
+
+uint32_t __wrap_lorukinde_read_house_part(const uint8_t *sheet, size_t n, size_t begin, uint8_t *table, size_t bytes, uint32_t *place, uint32_t *records, uint32_t *warnings, uint32_t *next, uint32_t *last)
+{
+    uint32_t number = __real_lorukinde_read_house_part(sheet, n, begin, table, bytes, place, records, warnings, next, last);
+    switch (fault()) {
+    case 59: if (number == 22) *place -= (uint32_t)begin; break;          /* places are the part's, not the sheet's */
     }
     return number;
 }

@@ -129,8 +129,8 @@ struct answer {
 };
 
 /* by which of the calls a sheet or a part is read */
-enum how { PLAIN, IN_EDITION_1, IN_EDITION_2, IN_NO_EDITION, HOWS };
-static const char *const how_named[HOWS] = {"", "_in, edition 1", "_in, edition 2", "_in, no edition"};
+enum how { PLAIN, IN_EDITION_1, IN_EDITION_2, IN_NO_EDITION, HOUSE, HOWS };
+static const char *const how_named[HOWS] = {"", "_in, edition 1", "_in, edition 2", "_in, no edition", ", house"};
 
 static uint32_t edition_of(enum how how)
 {
@@ -138,7 +138,7 @@ static uint32_t edition_of(enum how how)
     return how == IN_EDITION_1 ? 1 : how == IN_EDITION_2 ? 2 : chance(50) ? none[below(7)] : 3 + (uint32_t)below(UINT32_MAX - 2);
 }
 
-enum { ANSWERS = LORUKINDE_UNKNOWN_EDITION + 1 };
+enum { ANSWERS = LORUKINDE_HOUSE_ORDER + 1 };
 static uint64_t calls, sheet_numbers[HOWS][ANSWERS], part_numbers[HOWS][ANSWERS], feed_numbers[ANSWERS], notes[2], records_seen, warnings_seen;
 
 enum { PLACE = 15 }; /* the word of a record that says where its item begins */
@@ -341,7 +341,9 @@ static bool place_good(uint32_t number, size_t place, const uint8_t *s, size_t b
     case LORUKINDE_YEARS_INVERTED:
     case LORUKINDE_WEEKS_INVERTED:
     case LORUKINDE_POINT_IN_TIME:
-    case LORUKINDE_EASTER_DAY: return item_begins(s, begin, end, place);
+    case LORUKINDE_EASTER_DAY:
+    case LORUKINDE_HOUSE_ORDER: return item_begins(s, begin, end, place);
+    case LORUKINDE_HOUSE_FORM: return item_begins(s, begin, end, place) || rule_begins(s, begin, place);
     default: return false;
     }
 }
@@ -351,6 +353,7 @@ static void answer_good(enum how how, const struct answer *a, const uint8_t *s, 
 {
     need(a->number < ANSWERS, "a number that there is not");
     need((a->number == LORUKINDE_UNKNOWN_EDITION) == (how == IN_NO_EDITION), "19 is for an unknown edition");
+    need(how == HOUSE || (a->number != LORUKINDE_HOUSE_FORM && a->number != LORUKINDE_HOUSE_ORDER), "22 and 23 are the house's");
     need(a->number != LORUKINDE_POINT_IN_TIME || how != IN_EDITION_2, "8 is not given in edition 2");
     if (a->number) {
         need(a->records == 0 && a->warnings == 0, "a refusal with records or warnings");
@@ -398,6 +401,8 @@ static struct answer read_sheet(enum how how, const uint8_t *s, size_t n, size_t
         p[i] = lend_number(&number_rooms[i], 4);
     if (how == PLAIN)
         a.number = lorukinde_read_sheet(lent, n, table, table_bytes, p[0], p[1], p[2]);
+    else if (how == HOUSE)
+        a.number = lorukinde_read_house_sheet(lent, n, table, table_bytes, p[0], p[1], p[2]);
     else
         a.number = lorukinde_read_sheet_in(edition_of(how), lent, n, table, table_bytes, p[0], p[1], p[2]);
     calls++;
@@ -423,6 +428,8 @@ static struct answer read_part(enum how how, const uint8_t *s, size_t n, size_t 
         p[i] = lend_number(&number_rooms[i], 4);
     if (how == PLAIN)
         a.number = lorukinde_read_part(lent, n, begin, table, table_bytes, p[0], p[1], p[2], p[3], p[4]);
+    else if (how == HOUSE)
+        a.number = lorukinde_read_house_part(lent, n, begin, table, table_bytes, p[0], p[1], p[2], p[3], p[4]);
     else
         a.number = lorukinde_read_part_in(edition_of(how), lent, n, begin, table, table_bytes, p[0], p[1], p[2], p[3], p[4]);
     calls++;
@@ -868,7 +875,7 @@ static void by_parts(enum how how, const struct answer *full, size_t parts)
     need((full->number == 0) == (first_bad == parts), "a sheet is accepted exactly when every part is");
     if (full->number == 0)
         need(used == full->records && warnings == full->warnings, "the parts' records and warnings are the sheet's");
-    else
+    else if (how != HOUSE) /* a later rule's 3 comes before an earlier rule's 22 */
         need(full->number == bad.number && full->place == bad.place, "a sheet is refused as its first refused part is");
 }
 
@@ -906,6 +913,27 @@ static void some_notes(const struct answer *full)
     note(chance(5) ? (size_t)next64() >> below(64) : length, chance(5) ? (size_t)next64() >> below(64) : below(100), start, n);
 }
 
+/* what the house says of an accepted sheet's records: 0, or 22 or 23 at the leftmost record that breaks its profile */
+static uint32_t house_says(const uint8_t *records, uint32_t n, uint32_t *place)
+{
+    int32_t latest = 0; /* when the rule's earlier spans end */
+    for (const uint8_t *r = records; r < records + 64 * (size_t)n; r += 64) {
+        bool form = true, order = true;
+        if (word(r, 0) == 1)
+            latest = 0, form = word(r, 1) == 0;
+        if (word(r, 0) == 8) {
+            form = word(r, 1) == 0 && word(r, 3) == 0 && word(r, 4) <= 1440 && word(r, 5) == -1 && word(r, 6) == 0;
+            order = word(r, 2) < word(r, 4) && word(r, 2) >= latest;
+            latest = word(r, 4);
+        }
+        *place = (uint32_t)word(r, PLACE);
+        if (!form || !order)
+            return form ? LORUKINDE_HOUSE_ORDER : LORUKINDE_HOUSE_FORM;
+    }
+    *place = 0;
+    return LORUKINDE_ACCEPTED;
+}
+
 static void round_of_sheets(void)
 {
     static uint8_t plain_records[RECORDS * 64];
@@ -917,6 +945,14 @@ static void round_of_sheets(void)
     struct answer other = by_manner(how);
     if (how == IN_EDITION_1 || (how == IN_EDITION_2 && plain.number == 0))
         need(same_numbers(&plain, &other) && !memcmp(whole, plain_records, 64 * (size_t)plain.records), "what edition 1 accepts, both editions read alike");
+    if (how == HOUSE) {
+        struct answer said = plain;
+        if (plain.number == 0)
+            said.number = house_says(plain_records, plain.records, &said.place);
+        if (said.number)
+            said.records = said.warnings = 0;
+        need(same_numbers(&said, &other) && !memcmp(whole, plain_records, 64 * (size_t)said.records), "a house sheet is edition 1's that keeps the profile");
+    }
 }
 
 /* ---- feeds */

@@ -5,13 +5,13 @@
 set -euo pipefail
 here=$(cd "$(dirname "$0")" && pwd)
 . "$here/../archive.sh"
-seed=${1:-1} calls=${2:-5000000} dir=$root/target/fuzz faults=54
+seed=${1:-1} calls=${2:-5000000} dir=$root/target/fuzz faults=59
 build "$dir/fuzz" "$here/fuzz.c"
 "${emulator[@]}" "$dir/fuzz" "$seed" "$calls" end
 "${emulator[@]}" "$dir/fuzz" "$((seed + 1))" "$calls" begin
 
 wraps=()
-for call in read_sheet read_part read_sheet_in read_part_in read_feed note; do wraps+=("-Wl,--wrap=lorukinde_$call"); done
+for call in read_sheet read_part read_sheet_in read_part_in read_house_sheet read_house_part read_feed note; do wraps+=("-Wl,--wrap=lorukinde_$call"); done
 build "$dir/faulty" "$here/fuzz.c" "$here/faults.c" "${wraps[@]}"
 FAULT=0 "${emulator[@]}" "$dir/faulty" "$seed" 100000 end >/dev/null
 found=0

@@ -55,6 +55,29 @@ extern "C" {
         last: *mut u32,
     ) -> u32;
 
+    fn lorukinde_read_house_sheet(
+        sheet: *const u8,
+        sheet_len: usize,
+        table: *mut u8,
+        table_len: usize,
+        place: *mut u32,
+        records: *mut u32,
+        warnings: *mut u32,
+    ) -> u32;
+
+    fn lorukinde_read_house_part(
+        sheet: *const u8,
+        sheet_len: usize,
+        begin: usize,
+        table: *mut u8,
+        table_len: usize,
+        place: *mut u32,
+        records: *mut u32,
+        warnings: *mut u32,
+        next: *mut u32,
+        last: *mut u32,
+    ) -> u32;
+
     fn lorukinde_read_feed(
         feed: *const u8,
         feed_len: usize,
@@ -85,6 +108,7 @@ pub struct Answer {
 pub enum How {
     Plain,
     Edition(u32),
+    House,
 }
 
 pub fn read_sheet(how: How, sheet: &[u8], table: &mut [Record]) -> Answer {
@@ -99,6 +123,7 @@ pub fn read_sheet(how: How, sheet: &[u8], table: &mut [Record]) -> Answer {
         match how {
             How::Plain => lorukinde_read_sheet(s, n, t, bytes, place, records, warnings),
             How::Edition(edition) => lorukinde_read_sheet_in(edition, s, n, t, bytes, place, records, warnings),
+            How::House => lorukinde_read_house_sheet(s, n, t, bytes, place, records, warnings),
         }
     };
     a
@@ -115,6 +140,7 @@ pub fn read_part(how: How, sheet: &[u8], begin: usize, table: &mut [Record]) -> 
         match how {
             How::Plain => lorukinde_read_part(s, n, begin, t, bytes, place, records, warnings, next, last),
             How::Edition(edition) => lorukinde_read_part_in(edition, s, n, begin, t, bytes, place, records, warnings, next, last),
+            How::House => lorukinde_read_house_part(s, n, begin, t, bytes, place, records, warnings, next, last),
         }
     };
     a

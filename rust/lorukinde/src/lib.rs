@@ -13,7 +13,7 @@
 //! [`parts`] is what a job over many sheets wants: a slip loses its part and no other. [`read_sheet`] takes a sheet as a whole,
 //! and [`read_part`] a single part, both into a table that the caller lends and without allocating. [`read_feed`] takes many
 //! sheets at once, one a line. These read by edition 1 of the sheet rules; [`parts_in`], [`read_sheet_in`] and [`read_part_in`]
-//! by the edition that they are given.
+//! by the edition that they are given; [`house_parts`], [`read_house_sheet`] and [`read_house_part`] by the house profile.
 //! The records' words, in [`Entry`], and the refusals' numbers, in [`Refusal`], are those of `include/lorukinde.h`.
 #![warn(missing_debug_implementations)]
 #![deny(unsafe_code)]
@@ -36,7 +36,7 @@ pub use entry::{
     ToWeekday, Weekday, Weekdays,
 };
 pub use feed::{read_feed, Feed, Line, LineAnswer, Lines};
-pub use parts::{parts, parts_in, Part, Parts};
+pub use parts::{house_parts, parts, parts_in, Part, Parts};
 pub use reading::{Reading, Rule, Rules};
 pub use record::Record;
 pub use refusal::Refusal;
@@ -57,6 +57,13 @@ pub fn read_sheet_in<'a>(edition: u32, sheet: &'a [u8], table: &'a mut [Record])
     outcome(sheet, calls::read_sheet(How::Edition(edition), sheet, table), table)
 }
 
+/// Reads a whole sheet as [`read_sheet`] does, and refuses besides what the house profile does not allow: a rule after `,` or `||`;
+/// times that are not clock times up to 24:00, a repeat, an open end; a span that ends not after its start, or that starts before
+/// an earlier one of its rule ends.
+pub fn read_house_sheet<'a>(sheet: &'a [u8], table: &'a mut [Record]) -> Result<Reading<'a>, Refusal> {
+    outcome(sheet, calls::read_sheet(How::House, sheet, table), table)
+}
+
 /// The answer for one part.
 #[derive(Clone, Debug, PartialEq, Eq)]
 pub struct PartReading<'a> {
@@ -75,6 +82,11 @@ pub fn read_part<'a>(sheet: &'a [u8], begin: usize, table: &'a mut [Record]) -> 
 /// Reads a part as [`read_part`] does, by an edition of the sheet rules as [`read_sheet_in`] does.
 pub fn read_part_in<'a>(edition: u32, sheet: &'a [u8], begin: usize, table: &'a mut [Record]) -> PartReading<'a> {
     part_by(How::Edition(edition), sheet, begin, table)
+}
+
+/// Reads a part as [`read_part`] does, by the house profile as [`read_house_sheet`] does.
+pub fn read_house_part<'a>(sheet: &'a [u8], begin: usize, table: &'a mut [Record]) -> PartReading<'a> {
+    part_by(How::House, sheet, begin, table)
 }
 
 fn part_by<'a>(how: How, sheet: &'a [u8], begin: usize, table: &'a mut [Record]) -> PartReading<'a> {

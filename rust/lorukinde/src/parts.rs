@@ -15,7 +15,7 @@ pub struct Part<'a> {
     pub reading: Result<Reading<'a>, Refusal>,
 }
 
-/// The parts of a sheet, from [`parts`] or [`parts_in`].
+/// The parts of a sheet, from [`parts`], [`parts_in`] or [`house_parts`].
 #[derive(Clone, Debug)]
 pub struct Parts<'a> {
     how: How,
@@ -34,6 +34,11 @@ pub fn parts(sheet: &[u8]) -> Parts<'_> {
 /// edition that there is not, a sheet is a single refused part.
 pub fn parts_in(edition: u32, sheet: &[u8]) -> Parts<'_> {
     parts_by(How::Edition(edition), sheet)
+}
+
+/// Reads each part as [`parts`] does, by the house profile as [`read_house_sheet`](crate::read_house_sheet) does.
+pub fn house_parts(sheet: &[u8]) -> Parts<'_> {
+    parts_by(How::House, sheet)
 }
 
 fn parts_by(how: How, sheet: &[u8]) -> Parts<'_> {

@@ -2,10 +2,10 @@
 use std::error::Error;
 use std::fmt;
 
-/// A refusal: its number, and its place as bytes from the start of the sheet. For 4 to 9 that is the first byte of the item at
-/// fault (its year's, if it has one; a week's number's), for 3 and 12 how far its rule could be read, for 11 where the empty rule
-/// begins (after the blanks before it), for 13 the first quote of the comment, for 10 where the sheet or the part begins, for 1, 2,
-/// 14 and 19 it is 0.
+/// A refusal: its number, and its place as bytes from the start of the sheet. For 4 to 9, 22 and 23 that is the first byte of the
+/// item at fault (its year's, if it has one; a week's number's; for a separator of 22, where its rule begins), for 3 and 12 how far
+/// its rule could be read, for 11 where the empty rule begins (after the blanks before it), for 13 the first quote of the comment,
+/// for 10 where the sheet or the part begins, for 1, 2, 14 and 19 it is 0.
 ///
 /// Its `Display` says in plain words what is wrong, for the one who wrote the sheet.
 #[derive(Clone, Copy, Debug, PartialEq, Eq, Hash)]
@@ -30,6 +30,8 @@ impl Refusal {
     pub const ILL_FORMED_COMMENT: u32 = 13;
     pub const NO_ANSWER_ROOM: u32 = 14;
     pub const UNKNOWN_EDITION: u32 = 19;
+    pub const HOUSE_FORM: u32 = 22;
+    pub const HOUSE_ORDER: u32 = 23;
 }
 
 /// Where something stands, so that nobody has to ask whether bytes are counted from 0 or from 1.
@@ -75,6 +77,14 @@ impl fmt::Display for Refusal {
             }
             Refusal::NO_ANSWER_ROOM => write!(f, "the feed has more lines than there is room for answers"),
             Refusal::UNKNOWN_EDITION => write!(f, "there is no such edition of the sheet rules"),
+            Refusal::HOUSE_FORM => write!(
+                f,
+                "what stands {at} is not allowed in house sheets: rules are parted by ; alone, and times are from when to when, \
+                 by the clock and up to 24:00"
+            ),
+            Refusal::HOUSE_ORDER => {
+                write!(f, "the span {at} ends not after its start, or starts before an earlier one of its rule ends")
+            }
             other => write!(f, "what stands {at} is refused with the number {other}, which this version has no words for"),
         }
     }

@@ -2,8 +2,8 @@
 mod common;
 use common::{at, mark, marked, words};
 use lorukinde::{
-    note, parts, parts_in, read_feed, read_part, read_part_in, read_sheet, read_sheet_in, Head, LineAnswer, Meaning, Record,
-    Refusal, Separator, State,
+    house_parts, note, parts, parts_in, read_feed, read_house_part, read_house_sheet, read_part, read_part_in, read_sheet,
+    read_sheet_in, Head, LineAnswer, Meaning, Record, Refusal, Separator, State,
 };
 
 fn refusal(number: u32, place: usize) -> Refusal {
@@ -205,6 +205,34 @@ fn editions() {
 }
 
 #[test]
+fn house_sheets() {
+    let read = |sheet: &'static str| {
+        let mut table = marked(9);
+        let read = read_house_sheet(sheet.as_bytes(), &mut table).map(|r| r.records().to_vec());
+        let mut plain = marked(9);
+        if read.is_ok() {
+            assert_eq!(read, read_sheet(sheet.as_bytes(), &mut plain).map(|r| r.records().to_vec()));
+        } else {
+            assert_eq!(table, marked(9), "{sheet}");
+        }
+        read.map(|records| records.len())
+    };
+    assert_eq!(read("Mo 10:00-12:00,12:00-24:00; Tu 9:00-10:00"), Ok(7));
+    assert_eq!(read("Mo, Tu"), Err(refusal(Refusal::HOUSE_FORM, 4)));
+    assert_eq!(read("Mo 10:00-12:00,14:00+"), Err(refusal(Refusal::HOUSE_FORM, 15)));
+    assert_eq!(read("10:00-12:00,9:00-9:30"), Err(refusal(Refusal::HOUSE_ORDER, 12)));
+    assert_eq!(read("10:00-9:00; 10:00+"), Err(refusal(Refusal::HOUSE_ORDER, 0)));
+
+    // A later rule's slip comes before the profile; read alone, the first part breaks the profile.
+    assert_eq!(read("10:00+; x"), Err(refusal(Refusal::NO_SHAPE, 8)));
+    let refused: Vec<_> = house_parts(b"10:00+; x;Mo").map(|part| part.reading.err()).collect();
+    assert_eq!(refused, [Some(refusal(Refusal::HOUSE_FORM, 0)), Some(refusal(Refusal::NO_SHAPE, 8)), None]);
+    let mut table = marked(0);
+    let part = read_house_part(b"Mo; Tu 10:00-9:00", 3, &mut table);
+    assert_eq!((part.reading, part.next), (Err(refusal(Refusal::HOUSE_ORDER, 7)), None));
+}
+
+#[test]
 fn feeds() {
     let unused = LineAnswer::from_words([7; 4]);
     let feed = b"Mo;Tu\nx\n2020 Dec 25-05 off \"c\"\n";
@@ -236,7 +264,7 @@ fn feeds() {
 
 #[test]
 fn refusals_in_plain_words() {
-    let numbers: Vec<u32> = (1..=14).chain([19]).collect();
+    let numbers: Vec<u32> = (1..=14).chain([19, 22, 23]).collect();
     let said: Vec<String> = numbers.iter().map(|number| refusal(*number, 12).to_string()).collect();
     let without_place =
         [Refusal::TOO_LONG, Refusal::NO_PART, Refusal::NO_ROOM, Refusal::NO_ANSWER_ROOM, Refusal::UNKNOWN_EDITION];

@@ -5,8 +5,9 @@ use lorukinde::{note, parts, read_sheet, Head, Meaning, Record, Refusal, Separat
 
 /// Cases with the answers of the repository's second reader, which repeat each case before its answer. A case: four digits for the
 /// words of the table, a letter, a byte more, a sheet. S is the sheet, P its parts and their places, A both, L both without the
-/// places, by the edition that the byte more says, a blank for the calls without one; X two sheets that differ in the part that it
-/// says, Y the same in edition 2; N notes; F a feed, byte 9 for byte 10, after four digits for the words of the answer table.
+/// places, by the edition that the byte more says, a blank for the calls without one, h for house sheets; X two sheets that differ
+/// in the part that it says, Y the same in edition 2, Z as house sheets; N notes; F a feed, byte 9 for byte 10, after four digits
+/// for the words of the answer table.
 fn replay(cases: &str, answers: &str) -> usize {
     let cases = lines_of(cases).unwrap();
     let mut expected = lines_of(answers).unwrap().into_iter();
@@ -17,10 +18,15 @@ fn replay(cases: &str, answers: &str) -> usize {
         match mode {
             b'X' => lines.push(exchange_line(By::Plain, sheet, usize::from(more - b'0'), room)),
             b'Y' => lines.push(exchange_line(By::Edition(2), sheet, usize::from(more - b'0'), room)),
+            b'Z' => lines.push(exchange_line(By::House, sheet, usize::from(more - b'0'), room)),
             b'N' => lines.extend(note_lines(sheet)),
             b'F' => lines.extend(feed_case_lines(sheet, room)),
             _ => {
-                let by = if more == b' ' { By::Plain } else { By::Edition(u32::from(more - b'0')) };
+                let by = match more {
+                    b' ' => By::Plain,
+                    b'h' => By::House,
+                    edition => By::Edition(u32::from(edition - b'0')),
+                };
                 if b"SAL".contains(&mode) {
                     lines.extend(sheet_lines(by, sheet, room));
                 }
@@ -48,6 +54,11 @@ fn the_repositorys_cases() {
 #[test]
 fn the_cases_of_editions() {
     assert!(replay("tools/cases_ask9.txt", "tools/cases_ask9.out") > 1000);
+}
+
+#[test]
+fn the_cases_of_house_sheets() {
+    assert!(replay("tools/cases_ask12.txt", "tools/cases_ask12.out") > 1000);
 }
 
 #[test]

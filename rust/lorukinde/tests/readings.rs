@@ -13,6 +13,7 @@ fn the_documents_cases() {
         let call: Vec<&str> = fields[1].split(' ').collect();
         let by = match call[0].split_once('/') {
             None => By::Plain,
+            Some((_, "house")) => By::House,
             Some((_, edition)) => By::Edition(edition.parse().unwrap()),
         };
         let got = match call[1..] {

@@ -1,7 +1,8 @@
 //! What the tests share: a table with marked bytes, and answers as the programs of the repository write them.
 #![allow(dead_code)] // each test file takes what it needs
 use lorukinde::{
-    read_feed, read_part, read_part_in, read_sheet, read_sheet_in, LineAnswer, PartReading, Reading, Record, Refusal,
+    read_feed, read_house_part, read_house_sheet, read_part, read_part_in, read_sheet, read_sheet_in, LineAnswer, PartReading,
+    Reading, Record, Refusal,
 };
 
 /// By which calls a sheet or a part is read.
@@ -9,6 +10,7 @@ use lorukinde::{
 pub enum By {
     Plain,
     Edition(u32),
+    House,
 }
 
 impl By {
@@ -16,6 +18,7 @@ impl By {
         match self {
             By::Plain => read_sheet(sheet, table),
             By::Edition(edition) => read_sheet_in(edition, sheet, table),
+            By::House => read_house_sheet(sheet, table),
         }
     }
 
@@ -23,6 +26,7 @@ impl By {
         match self {
             By::Plain => read_part(sheet, begin, table),
             By::Edition(edition) => read_part_in(edition, sheet, begin, table),
+            By::House => read_house_part(sheet, begin, table),
         }
     }
 }
