@@ -13,6 +13,8 @@ and the cases of calls that crates/cases does not make, which the Rust tests rep
     python3 tools/reference.py cases tools/cases_ask9.txt > tools/cases_ask9.out
     python3 tools/make_cases.py ask12 > tools/cases_ask12.txt                       house sheets
     python3 tools/reference.py cases tools/cases_ask12.txt > tools/cases_ask12.out
+    python3 tools/make_cases.py ask14 > tools/cases_ask14.txt                       sheets damaged after a `;`
+    python3 tools/reference.py cases tools/cases_ask14.txt > tools/cases_ask14.out
 
 documents.txt has the sheets of the rules and of their readings, readings_04.txt those of document 04 (its form: check_documents.py), specification.txt examples of the OpenStreetMap wiki's pages on opening hours, as far as they are remembered, sample.txt sheets whose answers are
 the Rust's own (tools/oracle/README.md).
@@ -321,6 +323,24 @@ def house_sheets():
     return out
 
 
+# ---- what stands before damage
+def damaged():
+    """sheets damaged after a `;` by broken quotes, control bytes, bytes above 127: the parts before it, in each manner, compared with those of the sheet and by themselves"""
+    base = ['Mo;Tu;We', ' mo 10:00-12:00;"a;b": TU; 1899 ;off "c"', 'Mo "";;"d"; 24/7 ', "10:00+;10:00-9:00;Mo, Tu; x;off", "10:00;Mo-Fr[1];Mo +1 day;Su-Mo", 'Mo "\\xc3\\xa9;b";"\\xff";2020 Dec 25-05 off;"p": Fr, Sa || Su "q";']
+    damage = ["", '"', '"a', '""', '"";"', 'Mo "', '"a;b', "\\x00", "\\x01;\\x1f", '"\\x01"', "\\xff", '"\\xff', '"\\xff";', "\\x80\\xfe;x", ";", ";;", 'Th;"";Fr', ' "c" "']
+    cut = re.compile(r'(?:[^";]|"[^"]*")*')
+    out = []
+    for sheet in base:
+        parts = [m.group() for m in cut.finditer(sheet) if m.start() == 0 or sheet[m.start() - 1] == ";"]
+        assert ";".join(parts) == sheet, (sheet, parts)
+        for k in range(len(parts) - 1):
+            for text in damage:
+                other = ";".join(parts[:k + 1] + [text])
+                out += [line(sheet + "\\x09" + other, mode, 80, str(k)) for mode in "UVW"]
+                out += [line(other, "P", 80, part) for part in " 2h"]
+    return out
+
+
 # ---- the Rust's own answers
 def sample():
     """the sheets of the sample; its first line says how it was made"""
@@ -333,7 +353,7 @@ ORIGINS = {
     "tables": tables, "blanks": blanks, "odd bytes": odd_bytes, "letters": letters, "quotes": quotes, "long sheets": long_sheets, "exchanges": exchanges, "notes": notes,
     "edition 2's shapes": new_in_2, "the Rust's answers": sample,
 }
-OF_OTHER_CALLS = {"ask2": feeds, "ask9": edition_2, "ask12": house_sheets}
+OF_OTHER_CALLS = {"ask2": feeds, "ask9": edition_2, "ask12": house_sheets, "ask14": damaged}
 
 
 def main():

@@ -563,6 +563,13 @@ def exchange_lines(s, t, k, words, how=1):
     return [f"X {same.count(True)} {same.count(False)}"]
 
 
+def damage_lines(s, t, k, words, how):
+    """two sheets that agree up to the `;` that ends part k: how many of the parts up to there are read alike, at the same place, and how many are not"""
+    pairs = list(zip(chain(s, words, how), chain(t, words, how)))[:k + 1]
+    same = [p == q and still(s, p, r, t, q, w) for (p, r), (q, w) in pairs]
+    return [f"U {same.count(True)} {same.count(False)}"]
+
+
 def feed_answer_lines(feed, answer_words, words):
     """a feed's number, lines and records, then each line's answer, then each record"""
     number, answers, records = read_feed(feed, answer_words, words)
@@ -583,14 +590,17 @@ def note_lines(s):
 
 def case(raw):
     """A case: four digits for the words of the table; a letter; a byte more; the sheet. For S, P, A and L the byte more is a blank, or the edition as a digit
-    for the calls that take one, or h for a house sheet; for X, Y and Z it is the number of the exchanged part; else a blank.
+    for the calls that take one, or h for a house sheet; for X, Y and Z it is the number of the exchanged part, for U, V and W of the last part before damage; else a blank.
     S the sheet. P its parts, and the places where they begin. A both. L, for a long sheet, both without the places.
-    X two sheets with byte 9 between them, of which one part differs; Y the same in edition 2, Z as house sheets. N the notes for some starts and lengths.
+    X two sheets with byte 9 between them, of which one part differs; Y the same in edition 2, Z as house sheets. U two sheets with byte 9 between them, that agree up to the `;` that ends a part; V the same in edition 2, W as house sheets. N the notes for some starts and lengths.
     F four digits for the words of the answer table, and a feed, in which byte 9 stands for byte 10."""
     words, mode, more, s = int(raw[:4]), raw[4:5], raw[5:6], raw[6:]
     if mode in b"XYZ":
         one, other = s.split(b"\t")
         return exchange_lines(one, other, int(more), words, {b"X": 1, b"Y": 2, b"Z": HOUSE}[mode])
+    if mode in b"UVW":
+        one, other = s.split(b"\t")
+        return damage_lines(one, other, int(more), words, {b"U": 1, b"V": 2, b"W": HOUSE}[mode])
     if mode == b"N":
         return note_lines(s)
     if mode == b"F":

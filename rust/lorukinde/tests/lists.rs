@@ -6,8 +6,9 @@ use lorukinde::{note, parts, read_sheet, Head, Meaning, Record, Refusal, Separat
 /// Cases with the answers of the repository's second reader, which repeat each case before its answer. A case: four digits for the
 /// words of the table, a letter, a byte more, a sheet. S is the sheet, P its parts and their places, A both, L both without the
 /// places, by the edition that the byte more says, a blank for the calls without one, h for house sheets; X two sheets that differ
-/// in the part that it says, Y the same in edition 2, Z as house sheets; N notes; F a feed, byte 9 for byte 10, after four digits
-/// for the words of the answer table.
+/// in the part that it says, Y the same in edition 2, Z as house sheets; U two sheets that agree up to the end of the part that it
+/// says, V the same in edition 2, W as house sheets; N notes; F a feed, byte 9 for byte 10, after four digits for the words of the
+/// answer table.
 fn replay(cases: &str, answers: &str) -> usize {
     let cases = lines_of(cases).unwrap();
     let mut expected = lines_of(answers).unwrap().into_iter();
@@ -19,6 +20,9 @@ fn replay(cases: &str, answers: &str) -> usize {
             b'X' => lines.push(exchange_line(By::Plain, sheet, usize::from(more - b'0'), room)),
             b'Y' => lines.push(exchange_line(By::Edition(2), sheet, usize::from(more - b'0'), room)),
             b'Z' => lines.push(exchange_line(By::House, sheet, usize::from(more - b'0'), room)),
+            b'U' => lines.push(damage_line(By::Plain, sheet, usize::from(more - b'0'), room)),
+            b'V' => lines.push(damage_line(By::Edition(2), sheet, usize::from(more - b'0'), room)),
+            b'W' => lines.push(damage_line(By::House, sheet, usize::from(more - b'0'), room)),
             b'N' => lines.extend(note_lines(sheet)),
             b'F' => lines.extend(feed_case_lines(sheet, room)),
             _ => {
@@ -59,6 +63,11 @@ fn the_cases_of_editions() {
 #[test]
 fn the_cases_of_house_sheets() {
     assert!(replay("tools/cases_ask12.txt", "tools/cases_ask12.out") > 1000);
+}
+
+#[test]
+fn the_cases_of_damage() {
+    assert!(replay("tools/cases_ask14.txt", "tools/cases_ask14.out") > 1000);
 }
 
 #[test]
@@ -135,6 +144,15 @@ fn exchange_line(by: By, two: &[u8], k: usize, room: usize) -> Vec<u8> {
     let others = one.iter().zip(&other).enumerate().filter(|(i, _)| *i != k);
     let (alike, not): (Vec<_>, Vec<_>) = others.partition(|(_, (a, b))| a == b);
     format!("X {} {}", alike.len(), not.len()).into_bytes()
+}
+
+/// Two sheets with byte 9 between them, that agree up to the `;` that ends part `k`: how many of the parts up to there are read
+/// alike, and how many not. Each begins where the one before it says, so those that are alike stand at the same places.
+fn damage_line(by: By, two: &[u8], k: usize, room: usize) -> Vec<u8> {
+    let tab = two.iter().position(|byte| *byte == b'\t').unwrap();
+    let (one, other) = (all_said(by, &two[..tab], room), all_said(by, &two[tab + 1..], room));
+    let (alike, not): (Vec<_>, Vec<_>) = one.iter().zip(&other).take(k + 1).partition(|(a, b)| a == b);
+    format!("U {} {}", alike.len(), not.len()).into_bytes()
 }
 
 /// docs/DIFFERENCES.md, 6: the Rust ends on a day that the month lacks; here a bare end day is then in the next month.
