@@ -4,6 +4,7 @@
 //! one number, that are initialised; what a call writes to overlaps nothing else that it is given. A call keeps no pointer,
 //! allocates nothing and changes nothing else, for any bytes and any numbers.
 use crate::feed::LineAnswer;
+use crate::manner::Manner;
 use crate::record::Record;
 
 extern "C" {
@@ -92,6 +93,9 @@ extern "C" {
     fn lorukinde_note(sheet_len: usize, note_len: usize, start: i32, length: i32, from: *mut usize, to: *mut usize) -> u32;
 }
 
+/// Edition 2, as the calls that take an edition are told it.
+const SECOND: u32 = 2;
+
 /// The numbers of a reading. `next` and `last` are a part's; for a sheet they stay 0.
 #[derive(Default)]
 pub struct Answer {
@@ -103,33 +107,25 @@ pub struct Answer {
     pub last: u32,
 }
 
-/// By which of the calls a sheet or a part is read.
-#[derive(Clone, Copy, Debug)]
-pub enum How {
-    Plain,
-    Edition(u32),
-    House,
-}
-
-pub fn read_sheet(how: How, sheet: &[u8], table: &mut [Record]) -> Answer {
+pub fn read_sheet(manner: Manner, sheet: &[u8], table: &mut [Record]) -> Answer {
     let mut a = Answer::default();
     let (s, n) = (sheet.as_ptr(), sheet.len());
     let (t, bytes) = (table.as_mut_ptr().cast::<u8>(), std::mem::size_of_val(table));
     let (place, records, warnings) = (&mut a.place, &mut a.records, &mut a.warnings);
     // Sound: a slice's pointer is never null, and its bytes are initialised. A Record is 64 bytes without padding, of which any
     // values are a Record, so the table is size_of_val(table) bytes to be written at will. The table is lent to us alone, and
-    // the numbers are three fields of our own, so nothing written overlaps anything. Any edition has an answer.
+    // the numbers are three fields of our own, so nothing written overlaps anything.
     a.number = unsafe {
-        match how {
-            How::Plain => lorukinde_read_sheet(s, n, t, bytes, place, records, warnings),
-            How::Edition(edition) => lorukinde_read_sheet_in(edition, s, n, t, bytes, place, records, warnings),
-            How::House => lorukinde_read_house_sheet(s, n, t, bytes, place, records, warnings),
+        match manner {
+            Manner::Edition1 => lorukinde_read_sheet(s, n, t, bytes, place, records, warnings),
+            Manner::Edition2 => lorukinde_read_sheet_in(SECOND, s, n, t, bytes, place, records, warnings),
+            Manner::House => lorukinde_read_house_sheet(s, n, t, bytes, place, records, warnings),
         }
     };
     a
 }
 
-pub fn read_part(how: How, sheet: &[u8], begin: usize, table: &mut [Record]) -> Answer {
+pub fn read_part(manner: Manner, sheet: &[u8], begin: usize, table: &mut [Record]) -> Answer {
     let mut a = Answer::default();
     let (s, n) = (sheet.as_ptr(), sheet.len());
     let (t, bytes) = (table.as_mut_ptr().cast::<u8>(), std::mem::size_of_val(table));
@@ -137,10 +133,10 @@ pub fn read_part(how: How, sheet: &[u8], begin: usize, table: &mut [Record]) -> 
     let (next, last) = (&mut a.next, &mut a.last);
     // Sound: as for a sheet, with five fields of our own. Any `begin` has an answer: it is compared, not followed.
     a.number = unsafe {
-        match how {
-            How::Plain => lorukinde_read_part(s, n, begin, t, bytes, place, records, warnings, next, last),
-            How::Edition(edition) => lorukinde_read_part_in(edition, s, n, begin, t, bytes, place, records, warnings, next, last),
-            How::House => lorukinde_read_house_part(s, n, begin, t, bytes, place, records, warnings, next, last),
+        match manner {
+            Manner::Edition1 => lorukinde_read_part(s, n, begin, t, bytes, place, records, warnings, next, last),
+            Manner::Edition2 => lorukinde_read_part_in(SECOND, s, n, begin, t, bytes, place, records, warnings, next, last),
+            Manner::House => lorukinde_read_house_part(s, n, begin, t, bytes, place, records, warnings, next, last),
         }
     };
     a

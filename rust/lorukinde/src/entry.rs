@@ -1,4 +1,5 @@
 //! What a record's words mean, as types. Decoding never fails: words that no reading writes are given back as they are.
+use crate::names::{MONTHS, WEEKDAYS};
 use crate::record::Record;
 
 /// What a record says, and where it says it.
@@ -25,6 +26,32 @@ pub enum Meaning {
     Raw([i32; 16]),
 }
 
+/// The kind of list that an entry can stand in. Items of one kind add to each other, and a day has to fit each kind that stands in
+/// a rule.
+#[derive(Clone, Copy, Debug, PartialEq, Eq)]
+pub(crate) enum Kind {
+    Years,
+    MonthDays,
+    Weeks,
+    Days,
+    Times,
+    /// A head, or raw words.
+    NoItem,
+}
+
+impl Meaning {
+    pub(crate) fn kind(&self) -> Kind {
+        match self {
+            Meaning::Years(_) => Kind::Years,
+            Meaning::Months(_) | Meaning::Dates(_) => Kind::MonthDays,
+            Meaning::Weeks(_) => Kind::Weeks,
+            Meaning::Weekdays(_) | Meaning::Holiday(_) => Kind::Days,
+            Meaning::Span(_) => Kind::Times,
+            Meaning::Head(_) | Meaning::Raw(_) => Kind::NoItem,
+        }
+    }
+}
+
 /// A rule's head. The comment's start counts from the sheet's first byte, inside the quote; no comment is 0, 0.
 /// [`note`](crate::note) and [`Rule::comment`](crate::Rule::comment) give the comment itself.
 #[derive(Clone, Copy, Debug, PartialEq, Eq)]
@@ -39,11 +66,11 @@ pub struct Head {
 /// How a rule stands to the ones before it.
 #[derive(Clone, Copy, Debug, PartialEq, Eq)]
 pub enum Separator {
-    /// The first rule, or one behind `;`: where it applies, it takes the place of those before.
+    /// The first rule, or one after `;`: where it applies, it takes the place of those before.
     Normal,
-    /// Behind `, `: it adds to those before.
+    /// After `, `: it adds to those before.
     Additional,
-    /// Behind `||`: it counts where none before applies.
+    /// After `||`: it counts where none before applies.
     Fallback,
 }
 
@@ -120,10 +147,22 @@ pub struct Weekdays {
     pub from_end: u8,
 }
 
+/// A month has at most five of a weekday.
+const MOST_MARK: i32 = 5;
+const ALL_MARKS: u8 = (1 << MOST_MARK) - 1;
+
 impl Weekdays {
     /// Whether all ten marks are set: every such weekday is meant, and not some of a month.
     pub fn is_every_week(&self) -> bool {
-        self.from_start == 31 && self.from_end == 31
+        self.from_start == ALL_MARKS && self.from_end == ALL_MARKS
+    }
+
+    /// Which of a month are meant: 1 for the first, -1 for the last; those from the start first, rising.
+    pub fn marks(&self) -> impl Iterator<Item = i32> {
+        let (start, end) = (self.from_start, self.from_end);
+        let set = |flags: u8, n: &i32| flags >> (n - 1) & 1 == 1;
+        let from_start = (1..=MOST_MARK).filter(move |n| set(start, n));
+        from_start.chain((1..=MOST_MARK).filter(move |n| set(end, n)).map(|n| -n))
     }
 }
 
@@ -138,6 +177,9 @@ pub enum HolidayKind {
     Public,
     School,
 }
+
+/// Midnight at the end of a day, in minutes.
+pub(crate) const MIDNIGHT: i32 = 1440;
 
 /// From a time to a time, in the order in which they are written. With an open end it may last longer. A point in time, which
 /// edition 2 of the sheet rules knows, ends where it starts.
@@ -211,6 +253,11 @@ impl Weekday {
     pub fn number(self) -> i32 {
         self as i32
     }
+
+    /// Its name in a sheet: `Mo` to `Su`.
+    pub fn name(self) -> &'static str {
+        WEEKDAYS[self as usize - 1]
+    }
 }
 
 impl Month {
@@ -223,6 +270,11 @@ impl Month {
 
     pub fn number(self) -> i32 {
         self as i32
+    }
+
+    /// Its name in a sheet: `Jan` to `Dec`.
+    pub fn name(self) -> &'static str {
+        MONTHS[self as usize - 1]
     }
 }
 
@@ -311,12 +363,12 @@ fn date([form, in_year, month, day, n, to_weekday, day_offset]: [i32; 7]) -> Opt
 }
 
 fn marks(word: i32) -> Option<u8> {
-    u8::try_from(word).ok().filter(|mask| *mask <= 31)
+    u8::try_from(word).ok().filter(|mask| *mask <= ALL_MARKS)
 }
 
 fn time(kind: i32, minutes: i32) -> Option<Time> {
     if kind == 0 {
-        return (0..=2880).contains(&minutes).then_some(Time::Clock(minutes));
+        return (0..=2 * MIDNIGHT).contains(&minutes).then_some(Time::Clock(minutes));
     }
     let event = numbered(&[Event::Dawn, Event::Sunrise, Event::Sunset, Event::Dusk], kind)?;
     Some(Time::Sun(event, minutes))

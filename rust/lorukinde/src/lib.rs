@@ -13,33 +13,49 @@
 //! [`parts`] is what a job over many sheets wants: a slip loses its part and no other. [`read_sheet`] takes a sheet as a whole,
 //! and [`read_part`] a single part, both into a table that the caller lends and without allocating. [`read_feed`] takes many
 //! sheets at once, one a line. These read by edition 1 of the sheet rules; [`parts_in`], [`read_sheet_in`] and [`read_part_in`]
-//! by the edition that they are given; [`house_parts`], [`read_house_sheet`] and [`read_house_part`] by the house profile.
+//! in the [`Manner`] that they are given: edition 1, edition 2, or the house profile.
 //! The records' words, in [`Entry`], and the refusals' numbers, in [`Refusal`], are those of `include/lorukinde.h`.
 #![warn(missing_debug_implementations)]
 #![deny(unsafe_code)]
 
 #[allow(unsafe_code)]
 mod calls;
+mod empty;
 mod entry;
+mod expected;
+mod explain;
 mod feed;
+mod foreign;
+mod found;
+mod house;
+mod manner;
+mod names;
 mod parts;
+mod place;
+mod range;
 mod reading;
 mod record;
 mod refusal;
+mod scan;
+mod slips;
 mod words;
 
 use std::borrow::Cow;
 
-use calls::How;
 pub use entry::{
     Date, Dates, Day, Entry, Event, Head, Holiday, HolidayKind, Meaning, Month, Months, Separator, Span, State, Steps, Time,
     ToWeekday, Weekday, Weekdays,
 };
+pub use explain::{explain, Explanation};
 pub use feed::{read_feed, Feed, Line, LineAnswer, Lines};
-pub use parts::{house_parts, parts, parts_in, Part, Parts};
+pub use manner::Manner;
+pub use names::{unusual_names, UnusualName};
+pub use parts::{parts, parts_in, Part, Parts};
+pub use place::{characters, shown, Character, Characters, Position};
 pub use reading::{Reading, Rule, Rules};
 pub use record::Record;
 pub use refusal::Refusal;
+pub use slips::Hint;
 
 /// A sheet longer than this is refused.
 pub const SHEET_BYTES: usize = 4096;
@@ -47,50 +63,38 @@ pub const SHEET_BYTES: usize = 4096;
 /// Reads a whole sheet into the table. Accepted, only the records of the reading are written, at the table's start; refused,
 /// the table is as it was.
 pub fn read_sheet<'a>(sheet: &'a [u8], table: &'a mut [Record]) -> Result<Reading<'a>, Refusal> {
-    outcome(sheet, calls::read_sheet(How::Plain, sheet, table), table)
+    read_sheet_in(Manner::default(), sheet, table)
 }
 
-/// Reads a whole sheet as [`read_sheet`] does, by edition 1 or 2 of the sheet rules; another edition is refused. Edition 2 accepts
-/// besides a time alone ([`Span::is_point`]), marks after a range of weekdays (`Mo-Fr[1]`), and a day offset after any weekday item
-/// (`Mo +1 day`). What edition 1 accepts has the same records in both.
-pub fn read_sheet_in<'a>(edition: u32, sheet: &'a [u8], table: &'a mut [Record]) -> Result<Reading<'a>, Refusal> {
-    outcome(sheet, calls::read_sheet(How::Edition(edition), sheet, table), table)
-}
-
-/// Reads a whole sheet as [`read_sheet`] does, and refuses besides what the house profile does not allow: a rule after `,` or `||`;
-/// times that are not clock times up to 24:00, a repeat, an open end; a span that ends not after its start, or that starts before
-/// an earlier one of its rule ends.
-pub fn read_house_sheet<'a>(sheet: &'a [u8], table: &'a mut [Record]) -> Result<Reading<'a>, Refusal> {
-    outcome(sheet, calls::read_sheet(How::House, sheet, table), table)
+/// Reads a whole sheet as [`read_sheet`] does, in a manner.
+pub fn read_sheet_in<'a>(manner: Manner, sheet: &'a [u8], table: &'a mut [Record]) -> Result<Reading<'a>, Refusal> {
+    outcome(sheet, calls::read_sheet(manner, sheet, table), table)
 }
 
 /// The answer for one part.
 #[derive(Clone, Debug, PartialEq, Eq)]
 pub struct PartReading<'a> {
     pub reading: Result<Reading<'a>, Refusal>,
-    /// Where the next part begins; None if this was the last, or if the sheet is too long, no part begins at the given place, or
-    /// there is no such edition.
+    /// Where the next part begins; None if this was the last, or if the sheet is too long or no part begins at the given place.
     pub next: Option<usize>,
+}
+
+impl PartReading<'_> {
+    /// Where the part ends, in a sheet of so many bytes: before the `;` after which the next begins, or at the sheet's end.
+    pub fn end(&self, sheet_len: usize) -> usize {
+        self.next.map_or(sheet_len, |next| next - 1)
+    }
 }
 
 /// Reads the part of a sheet that begins at a place, the first at 0, into the table, which is written to as by [`read_sheet`].
 /// Places count from the sheet's first byte.
 pub fn read_part<'a>(sheet: &'a [u8], begin: usize, table: &'a mut [Record]) -> PartReading<'a> {
-    part_by(How::Plain, sheet, begin, table)
+    read_part_in(Manner::default(), sheet, begin, table)
 }
 
-/// Reads a part as [`read_part`] does, by an edition of the sheet rules as [`read_sheet_in`] does.
-pub fn read_part_in<'a>(edition: u32, sheet: &'a [u8], begin: usize, table: &'a mut [Record]) -> PartReading<'a> {
-    part_by(How::Edition(edition), sheet, begin, table)
-}
-
-/// Reads a part as [`read_part`] does, by the house profile as [`read_house_sheet`] does.
-pub fn read_house_part<'a>(sheet: &'a [u8], begin: usize, table: &'a mut [Record]) -> PartReading<'a> {
-    part_by(How::House, sheet, begin, table)
-}
-
-fn part_by<'a>(how: How, sheet: &'a [u8], begin: usize, table: &'a mut [Record]) -> PartReading<'a> {
-    let answer = calls::read_part(how, sheet, begin, table);
+/// Reads a part as [`read_part`] does, in a manner.
+pub fn read_part_in<'a>(manner: Manner, sheet: &'a [u8], begin: usize, table: &'a mut [Record]) -> PartReading<'a> {
+    let answer = calls::read_part(manner, sheet, begin, table);
     let next = (answer.last == 0).then_some(answer.next as usize);
     PartReading { reading: outcome(sheet, answer, table), next }
 }

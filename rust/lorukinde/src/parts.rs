@@ -2,23 +2,23 @@
 use std::borrow::Cow;
 use std::ops::Range;
 
-use crate::calls::How;
+use crate::manner::Manner;
 use crate::reading::Reading;
 use crate::record::Record;
 use crate::refusal::Refusal;
-use crate::{part_by, SHEET_BYTES};
+use crate::{read_part_in, SHEET_BYTES};
 
-/// A part of a sheet: from where to where it goes, without the `;` behind it, and what it says or why it is refused.
+/// A part of a sheet: from where to where it goes, without the `;` after it, and what it says or why it is refused.
 #[derive(Clone, Debug, PartialEq, Eq)]
 pub struct Part<'a> {
     pub range: Range<usize>,
     pub reading: Result<Reading<'a>, Refusal>,
 }
 
-/// The parts of a sheet, from [`parts`], [`parts_in`] or [`house_parts`].
+/// The parts of a sheet, from [`parts`] or [`parts_in`].
 #[derive(Clone, Debug)]
 pub struct Parts<'a> {
-    how: How,
+    manner: Manner,
     sheet: &'a [u8],
     begin: Option<usize>,
     table: Vec<Record>,
@@ -27,24 +27,14 @@ pub struct Parts<'a> {
 /// Reads each part of a sheet, from the first to the last. A sheet has at least one; one of over 4,096 bytes is a single
 /// refused part. There is always room, so 10 is never among the refusals.
 pub fn parts(sheet: &[u8]) -> Parts<'_> {
-    parts_by(How::Plain, sheet)
+    parts_in(Manner::default(), sheet)
 }
 
-/// Reads each part as [`parts`] does, by an edition of the sheet rules as [`read_sheet_in`](crate::read_sheet_in) does. In an
-/// edition that there is not, a sheet is a single refused part.
-pub fn parts_in(edition: u32, sheet: &[u8]) -> Parts<'_> {
-    parts_by(How::Edition(edition), sheet)
-}
-
-/// Reads each part as [`parts`] does, by the house profile as [`read_house_sheet`](crate::read_house_sheet) does.
-pub fn house_parts(sheet: &[u8]) -> Parts<'_> {
-    parts_by(How::House, sheet)
-}
-
-fn parts_by(how: How, sheet: &[u8]) -> Parts<'_> {
+/// Reads each part as [`parts`] does, in a manner.
+pub fn parts_in(manner: Manner, sheet: &[u8]) -> Parts<'_> {
     // There are never more records than bytes: the theorem `records-few` (crates/sheet/proofs/Bounds.antt).
     let room = sheet.len().min(SHEET_BYTES);
-    Parts { how, sheet, begin: Some(0), table: vec![Record::EMPTY; room] }
+    Parts { manner, sheet, begin: Some(0), table: vec![Record::EMPTY; room] }
 }
 
 impl<'a> Iterator for Parts<'a> {
@@ -52,9 +42,8 @@ impl<'a> Iterator for Parts<'a> {
 
     fn next(&mut self) -> Option<Part<'a>> {
         let begin = self.begin?;
-        let part = part_by(self.how, self.sheet, begin, &mut self.table);
-        // The next part begins after the `;` that ends this one.
-        let end = part.next.map_or(self.sheet.len(), |next| next - 1);
+        let part = read_part_in(self.manner, self.sheet, begin, &mut self.table);
+        let end = part.end(self.sheet.len());
         self.begin = part.next;
         let reading = part.reading.map(|reading| Reading {
             sheet: self.sheet,

@@ -87,8 +87,8 @@ impl<'a> Iterator for Rules<'a> {
             _ => return None,
         };
         let count = usize::try_from(head.items).unwrap_or(0).min(rest.len());
-        let (items, behind) = rest.split_at(count);
-        self.records = behind;
+        let (items, later) = rest.split_at(count);
+        self.records = later;
         Some(Rule { place, head, sheet: self.sheet, items })
     }
 }

@@ -2,12 +2,14 @@
 use std::error::Error;
 use std::fmt;
 
+use crate::place::Position;
+
 /// A refusal: its number, and its place as bytes from the start of the sheet. For 4 to 9, 22 and 23 that is the first byte of the
 /// item at fault (its year's, if it has one; a week's number's; for a separator of 22, where its rule begins), for 3 and 12 how far
 /// its rule could be read, for 11 where the empty rule begins (after the blanks before it), for 13 the first quote of the comment,
 /// for 10 where the sheet or the part begins, for 1, 2, 14 and 19 it is 0.
 ///
-/// Its `Display` says in plain words what is wrong, for the one who wrote the sheet.
+/// Its `Display` says in plain words what is wrong, without the sheet; [`explain`](crate::explain) says it with the sheet at hand.
 #[derive(Clone, Copy, Debug, PartialEq, Eq, Hash)]
 pub struct Refusal {
     pub number: u32,
@@ -32,6 +34,11 @@ impl Refusal {
     pub const UNKNOWN_EDITION: u32 = 19;
     pub const HOUSE_FORM: u32 = 22;
     pub const HOUSE_ORDER: u32 = 23;
+
+    /// The place as people count it, by line and character, in the sheet that was read.
+    pub fn position(&self, sheet: &[u8]) -> Position {
+        Position::of(sheet, self.place)
+    }
 }
 
 /// Where something stands, so that nobody has to ask whether bytes are counted from 0 or from 1.

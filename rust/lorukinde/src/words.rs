@@ -3,7 +3,7 @@ use std::fmt;
 
 use crate::entry::{
     Date, Dates, Day, Entry, Event, Holiday, HolidayKind, Meaning, Month, Months, Separator, Span, State, Steps, Time, ToWeekday,
-    Weekday, Weekdays,
+    Weekday, Weekdays, MIDNIGHT,
 };
 use crate::reading::Rule;
 
@@ -156,9 +156,7 @@ impl fmt::Display for Weekdays {
     fn fmt(&self, f: &mut fmt::Formatter<'_>) -> fmt::Result {
         write!(f, "{}", moved(self.day_offset, "day"))?;
         if !self.is_every_week() {
-            let start = (1..=5).filter(|n| self.from_start >> (n - 1) & 1 == 1).map(ordinal);
-            let end = (1..=5).filter(|n| self.from_end >> (n - 1) & 1 == 1).map(|n| ordinal(-n));
-            write!(f, "the {} ", listed(&start.chain(end).collect::<Vec<_>>()))?;
+            write!(f, "the {} ", listed(&self.marks().map(ordinal).collect::<Vec<_>>()))?;
         }
         write!(f, "{}", self.first)?;
         if self.first != self.last {
@@ -184,10 +182,17 @@ impl fmt::Display for Holiday {
 impl fmt::Display for Time {
     fn fmt(&self, f: &mut fmt::Formatter<'_>) -> fmt::Result {
         match self {
-            Time::Clock(later) if *later > 1440 => write!(f, "{} the next day", Time::Clock(later - 1440)),
+            Time::Clock(later) if *later > MIDNIGHT => write!(f, "{} the next day", Time::Clock(later - MIDNIGHT)),
             Time::Clock(minutes) => write!(f, "{:02}:{:02}", minutes / 60, minutes % 60),
             Time::Sun(event, offset) => write!(f, "{}{event}", moved(*offset, "minute")),
         }
+    }
+}
+
+impl Span {
+    /// Whether the clock goes back from the start to the end (`18:00-09:00`), so that the end is on the next day.
+    fn goes_back(&self) -> bool {
+        matches!((self.start, self.end), (Time::Clock(start), Time::Clock(end)) if end < start)
     }
 }
 
@@ -197,6 +202,9 @@ impl fmt::Display for Span {
             return write!(f, "at {}", self.start);
         }
         write!(f, "{} to {}", self.start, self.end)?;
+        if self.goes_back() {
+            write!(f, " the next day")?;
+        }
         if self.open_end {
             write!(f, " or later")?;
         }
@@ -229,19 +237,6 @@ impl fmt::Display for Meaning {
     }
 }
 
-/// Items of one kind add to each other, and a day has to fit each kind that stands there.
-fn kind(meaning: &Meaning) -> u8 {
-    match meaning {
-        Meaning::Head(_) => 0,
-        Meaning::Years(_) => 1,
-        Meaning::Months(_) | Meaning::Dates(_) => 2,
-        Meaning::Weeks(_) => 3,
-        Meaning::Weekdays(_) | Meaning::Holiday(_) => 4,
-        Meaning::Span(_) => 5,
-        Meaning::Raw(_) => 6,
-    }
-}
-
 /// `closed: 25 December 2020 to 5 January 2021`; kinds of items are parted by commas, items of a kind by `and`.
 impl fmt::Display for Rule<'_> {
     fn fmt(&self, f: &mut fmt::Formatter<'_>) -> fmt::Result {
@@ -255,11 +250,11 @@ impl fmt::Display for Rule<'_> {
         for item in self.items() {
             match before {
                 None => {}
-                Some(same) if same == kind(&item.meaning) => write!(f, " and ")?,
+                Some(same) if same == item.meaning.kind() => write!(f, " and ")?,
                 Some(_) => write!(f, ", ")?,
             }
             write!(f, "{item}")?;
-            before = Some(kind(&item.meaning));
+            before = Some(item.meaning.kind());
         }
         if before.is_none() {
             write!(f, "always")?;

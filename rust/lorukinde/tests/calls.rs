@@ -1,9 +1,9 @@
 //! The calls at their edges: lengths, places, tables, notes; and what a refusal says.
 mod common;
-use common::{at, mark, marked, words};
+use common::{at, by_number, mark, marked, part_by_number, words};
 use lorukinde::{
-    house_parts, note, parts, parts_in, read_feed, read_house_part, read_house_sheet, read_part, read_part_in, read_sheet,
-    read_sheet_in, Head, LineAnswer, Meaning, Record, Refusal, Separator, State,
+    note, parts, parts_in, read_feed, read_part, read_part_in, read_sheet, read_sheet_in, Head, LineAnswer, Manner, Meaning,
+    Record, Refusal, Separator, State,
 };
 
 fn refusal(number: u32, place: usize) -> Refusal {
@@ -96,7 +96,7 @@ fn parts_always_have_room() {
     assert_eq!(parts(weeks.as_bytes()).map(|part| part.reading.map(|r| r.records().len())).collect::<Vec<_>>(), [Ok(2047)]);
 }
 
-/// The memory beside the lent table, and inside it behind the records, keeps every byte.
+/// The memory beside the lent table, and inside it after the records, keeps every byte.
 #[test]
 fn nothing_else_is_written() {
     let mut around = marked(9);
@@ -180,35 +180,45 @@ fn items_know_their_places() {
     assert_eq!(part.reading.unwrap().entries().map(|entry| entry.place).collect::<Vec<_>>(), [48, 56, 56, 61]);
 }
 
+/// The calls for C that take an edition's number: 1 is the calls without one, an edition that there is not is refused.
+#[test]
+fn editions_by_number() {
+    let sheet = b"mo;10:00;Tu";
+    for edition in [0, 3, u32::MAX] {
+        let mut table = marked(9);
+        assert_eq!(by_number(edition, &[b' '; 4097], &mut table), [Refusal::UNKNOWN_EDITION, 0, 0, 0]);
+        assert_eq!(part_by_number(edition, sheet, 1, &mut table), [Refusal::UNKNOWN_EDITION, 0, 0, 0, 0, 1]);
+        assert_eq!(table, marked(9));
+    }
+    let (mut plain, mut numbered) = (marked(9), marked(9));
+    let records = read_sheet(b"mo;Tu", &mut plain).map(|r| r.records().len() as u32);
+    assert_eq!((by_number(1, b"mo;Tu", &mut numbered), records), ([0, 0, 4, 1], Ok(4)));
+    assert_eq!(plain, numbered);
+    assert_eq!(part_by_number(1, sheet, 3, &mut numbered), [Refusal::POINT_IN_TIME, 3, 0, 0, 9, 0]);
+}
+
 #[test]
 fn editions() {
     let sheet = b"10:00;Mo-Fr[1] +1 day";
-    for edition in [0, 3, u32::MAX] {
-        let mut table = marked(9);
-        assert_eq!(read_sheet_in(edition, &[b' '; 4097], &mut table), Err(refusal(Refusal::UNKNOWN_EDITION, 0)));
-        let part = read_part_in(edition, sheet, 1, &mut table);
-        assert_eq!((part.reading, part.next), (Err(refusal(Refusal::UNKNOWN_EDITION, 0)), None));
-        assert_eq!(table, marked(9));
-        assert_eq!(parts_in(edition, sheet).map(|part| part.range).collect::<Vec<_>>(), [0..21]);
-    }
+    assert_eq!(Manner::default(), Manner::Edition1);
     let (mut one, mut in_one) = (marked(9), marked(9));
     assert_eq!(read_sheet(sheet, &mut one), Err(refusal(Refusal::POINT_IN_TIME, 0)));
-    assert_eq!(read_sheet_in(1, sheet, &mut in_one), Err(refusal(Refusal::POINT_IN_TIME, 0)));
+    assert_eq!(read_sheet_in(Manner::Edition1, sheet, &mut in_one), Err(refusal(Refusal::POINT_IN_TIME, 0)));
 
     let mut table = marked(9);
-    let reading = read_sheet_in(2, sheet, &mut table).unwrap();
+    let reading = read_sheet_in(Manner::Edition2, sheet, &mut table).unwrap();
     let words_of: Vec<_> = reading.records().iter().map(Record::words).collect();
     let (first, second) = (words([1, 0, 0, 0, 0, 1]), at(6, words([1, 0, 0, 0, 0, 1])));
     assert_eq!(words_of, [first, words([8, 0, 600, 0, 600, -1, 0, 1]), second, at(6, words([6, 1, 5, 1, 1, 0]))]);
     assert!(matches!(reading.entries().nth(1).unwrap().meaning, Meaning::Span(span) if span.is_point && span.start == span.end));
-    assert!(parts_in(2, sheet).all(|part| part.reading.is_ok()));
+    assert!(parts_in(Manner::Edition2, sheet).all(|part| part.reading.is_ok()));
 }
 
 #[test]
 fn house_sheets() {
     let read = |sheet: &'static str| {
         let mut table = marked(9);
-        let read = read_house_sheet(sheet.as_bytes(), &mut table).map(|r| r.records().to_vec());
+        let read = read_sheet_in(Manner::House, sheet.as_bytes(), &mut table).map(|r| r.records().to_vec());
         let mut plain = marked(9);
         if read.is_ok() {
             assert_eq!(read, read_sheet(sheet.as_bytes(), &mut plain).map(|r| r.records().to_vec()));
@@ -225,10 +235,10 @@ fn house_sheets() {
 
     // A later rule's slip comes before the profile; read alone, the first part breaks the profile.
     assert_eq!(read("10:00+; x"), Err(refusal(Refusal::NO_SHAPE, 8)));
-    let refused: Vec<_> = house_parts(b"10:00+; x;Mo").map(|part| part.reading.err()).collect();
+    let refused: Vec<_> = parts_in(Manner::House, b"10:00+; x;Mo").map(|part| part.reading.err()).collect();
     assert_eq!(refused, [Some(refusal(Refusal::HOUSE_FORM, 0)), Some(refusal(Refusal::NO_SHAPE, 8)), None]);
     let mut table = marked(0);
-    let part = read_house_part(b"Mo; Tu 10:00-9:00", 3, &mut table);
+    let part = read_part_in(Manner::House, b"Mo; Tu 10:00-9:00", 3, &mut table);
     assert_eq!((part.reading, part.next), (Err(refusal(Refusal::HOUSE_ORDER, 7)), None));
 }
 

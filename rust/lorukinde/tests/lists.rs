@@ -1,7 +1,7 @@
 //! Long lists of sheets with fixed answers, and what parts and sheets owe each other on random ones.
 mod common;
 use common::{feed_lines, lines_of, part_lines, place_line, sheet_lines, By};
-use lorukinde::{note, parts, read_sheet, Head, Meaning, Record, Refusal, Separator, State};
+use lorukinde::{note, parts, read_sheet, Head, Manner, Meaning, Record, Refusal, Separator, State};
 
 /// Cases with the answers of the repository's second reader, which repeat each case before its answer. A case: four digits for the
 /// words of the table, a letter, a byte more, a sheet. S is the sheet, P its parts and their places, A both, L both without the
@@ -17,19 +17,19 @@ fn replay(cases: &str, answers: &str) -> usize {
         let (mode, more, sheet) = (case[4], case[5], &case[6..]);
         let mut lines = vec![case.clone()];
         match mode {
-            b'X' => lines.push(exchange_line(By::Plain, sheet, usize::from(more - b'0'), room)),
-            b'Y' => lines.push(exchange_line(By::Edition(2), sheet, usize::from(more - b'0'), room)),
-            b'Z' => lines.push(exchange_line(By::House, sheet, usize::from(more - b'0'), room)),
-            b'U' => lines.push(damage_line(By::Plain, sheet, usize::from(more - b'0'), room)),
-            b'V' => lines.push(damage_line(By::Edition(2), sheet, usize::from(more - b'0'), room)),
-            b'W' => lines.push(damage_line(By::House, sheet, usize::from(more - b'0'), room)),
+            b'X' => lines.push(exchange_line(By::PLAIN, sheet, usize::from(more - b'0'), room)),
+            b'Y' => lines.push(exchange_line(By::In(Manner::Edition2), sheet, usize::from(more - b'0'), room)),
+            b'Z' => lines.push(exchange_line(By::In(Manner::House), sheet, usize::from(more - b'0'), room)),
+            b'U' => lines.push(damage_line(By::PLAIN, sheet, usize::from(more - b'0'), room)),
+            b'V' => lines.push(damage_line(By::In(Manner::Edition2), sheet, usize::from(more - b'0'), room)),
+            b'W' => lines.push(damage_line(By::In(Manner::House), sheet, usize::from(more - b'0'), room)),
             b'N' => lines.extend(note_lines(sheet)),
             b'F' => lines.extend(feed_case_lines(sheet, room)),
             _ => {
                 let by = match more {
-                    b' ' => By::Plain,
-                    b'h' => By::House,
-                    edition => By::Edition(u32::from(edition - b'0')),
+                    b' ' => By::PLAIN,
+                    b'h' => By::In(Manner::House),
+                    edition => By::edition(u32::from(edition - b'0')),
                 };
                 if b"SAL".contains(&mode) {
                     lines.extend(sheet_lines(by, sheet, room));
@@ -85,7 +85,7 @@ fn number_of(digits: &[u8]) -> usize {
     digits.iter().fold(0, |n, digit| 10 * n + usize::from(digit - b'0'))
 }
 
-/// For some starts and lengths the note, and a bar behind it; one line for each start.
+/// For some starts and lengths the note, and a bar after it; one line for each start.
 fn note_lines(sheet: &[u8]) -> Vec<Vec<u8>> {
     let numbers = [i32::MIN, -1, 0, 1, 3, 5, 6, i32::MAX];
     let one = |comment_start, comment_length| {
@@ -195,7 +195,7 @@ fn the_oracles_list() {
     let mut expected = expected.into_iter().skip(1);
     let mut moved = 0;
     for sheet in &sheets[1..] {
-        for line in sheet_lines(By::Plain, sheet, 512).iter().map(|line| without_place(line)) {
+        for line in sheet_lines(By::PLAIN, sheet, 512).iter().map(|line| without_place(line)) {
             let rusts = expected.next().unwrap();
             if line != rusts {
                 assert!(moved_to_the_next_month(&line, &rusts), "{}", String::from_utf8_lossy(sheet));
@@ -207,7 +207,7 @@ fn the_oracles_list() {
     println!("{} sheets, {moved} bare end days moved", sheets.len() - 1);
 }
 
-/// Random sheets: the whole is accepted where every part is, with their records one behind the other, and else refused as the
+/// Random sheets: the whole is accepted where every part is, with their records one after the other, and else refused as the
 /// first refused part is. No record stays without a meaning, and every rule can be said.
 #[test]
 fn parts_make_the_sheet() {

@@ -84,5 +84,5 @@ fn parts_around_an_empty_one() {
 #[test]
 fn as_the_program_writes_it() {
     let shown = "0 0 2 0\n1 0 0 0 0 1 0 0 0 0 0 0 0 0 0 0\n8 0 600 0 1440 -1 1 0 0 0 0 0 0 0 0 0";
-    assert_eq!(sheet_lines(By::Plain, b"10:00+", 512).join(&b'\n'), shown.as_bytes());
+    assert_eq!(sheet_lines(By::PLAIN, b"10:00+", 512).join(&b'\n'), shown.as_bytes());
 }

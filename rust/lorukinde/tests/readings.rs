@@ -1,6 +1,7 @@
 //! The cases of document 04: which number a refusal has, where it stands, and which words an item has.
 mod common;
 use common::{bytes_of, feed_lines, lines_of, one_part, sheet_lines, By};
+use lorukinde::Manner;
 
 /// tools/readings_04.txt: section, Ask and call, sheet, answer, parted by byte 9. The first line says how it was made.
 #[test]
@@ -12,9 +13,9 @@ fn the_documents_cases() {
         let (sheet, expected) = (bytes_of(fields[2]), fields[3].replace("more", "0").replace("last", "1"));
         let call: Vec<&str> = fields[1].split(' ').collect();
         let by = match call[0].split_once('/') {
-            None => By::Plain,
-            Some((_, "house")) => By::House,
-            Some((_, edition)) => By::Edition(edition.parse().unwrap()),
+            None => By::PLAIN,
+            Some((_, "house")) => By::In(Manner::House),
+            Some((_, edition)) => By::edition(edition.parse().unwrap()),
         };
         let got = match call[1..] {
             [] => sheet_lines(by, &sheet, 512).swap_remove(0),

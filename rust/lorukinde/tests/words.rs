@@ -1,5 +1,5 @@
 //! What is said in plain words.
-use lorukinde::{parts, parts_in, Refusal};
+use lorukinde::{parts, parts_in, Manner, Refusal};
 
 fn said(sheet: &str) -> Vec<String> {
     parts(sheet.as_bytes())
@@ -31,6 +31,10 @@ fn rules_in_plain_words() {
         ("Tu[-2]", "open: the 2nd last Tuesday of the month"),
         ("SH -1 day off", "closed: 1 day before school holidays"),
         ("22:00-26:00", "open: 22:00 to 02:00 the next day"),
+        ("18:00-09:00", "open: 18:00 to 09:00 the next day"),
+        ("18:00-0:00+", "open: 18:00 to 00:00 the next day or later"),
+        ("18:00-18:00", "open: 18:00 to 18:00"),
+        ("sunset-09:00", "open: sunset to 09:00"),
         ("10:00-48:00", "open: 10:00 to 24:00 the next day"),
         ("10:00-12:00/30", "open: 10:00 to 12:00 every 30 minutes"),
         ("(sunrise+1:30)-sunset", "open: 90 minutes after sunrise to sunset"),
@@ -58,8 +62,9 @@ fn what_edition_2_adds() {
         ("Mo-Fr[1,-1]", "open: the 1st and last Monday to Friday of the month"),
         ("Sa-Su -2 days", "open: 2 days before Saturday to Sunday"),
     ] {
-        let rules: Vec<_> =
-            parts_in(2, sheet.as_bytes()).map(|part| part.reading.unwrap().rules().next().unwrap().to_string()).collect();
+        let rules: Vec<_> = parts_in(Manner::Edition2, sheet.as_bytes())
+            .map(|part| part.reading.unwrap().rules().next().unwrap().to_string())
+            .collect();
         assert_eq!(rules, [words], "{sheet}");
     }
 }

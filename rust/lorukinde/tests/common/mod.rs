@@ -1,34 +1,99 @@
 //! What the tests share: a table with marked bytes, and answers as the programs of the repository write them.
 #![allow(dead_code)] // each test file takes what it needs
-use lorukinde::{
-    read_feed, read_house_part, read_house_sheet, read_part, read_part_in, read_sheet, read_sheet_in, LineAnswer, PartReading,
-    Reading, Record, Refusal,
-};
+use lorukinde::{read_feed, read_part_in, read_sheet_in, LineAnswer, Manner, PartReading, Reading, Record, Refusal};
 
-/// By which calls a sheet or a part is read.
+extern "C" {
+    fn lorukinde_read_sheet_in(
+        edition: u32,
+        sheet: *const u8,
+        sheet_len: usize,
+        table: *mut u8,
+        table_len: usize,
+        place: *mut u32,
+        records: *mut u32,
+        warnings: *mut u32,
+    ) -> u32;
+
+    fn lorukinde_read_part_in(
+        edition: u32,
+        sheet: *const u8,
+        sheet_len: usize,
+        begin: usize,
+        table: *mut u8,
+        table_len: usize,
+        place: *mut u32,
+        records: *mut u32,
+        warnings: *mut u32,
+        next: *mut u32,
+        last: *mut u32,
+    ) -> u32;
+}
+
+/// The C call for a sheet that takes the edition as a number: number, place, records, warnings.
+pub fn by_number(edition: u32, sheet: &[u8], table: &mut [Record]) -> [u32; 4] {
+    let [mut place, mut records, mut warnings] = [0; 3];
+    let (t, bytes) = (table.as_mut_ptr().cast::<u8>(), std::mem::size_of_val(table));
+    // Sound: as in the crate's own calls.
+    let number = unsafe {
+        lorukinde_read_sheet_in(edition, sheet.as_ptr(), sheet.len(), t, bytes, &mut place, &mut records, &mut warnings)
+    };
+    [number, place, records, warnings]
+}
+
+/// The C call for a part that takes the edition as a number: number, place, records, warnings, next, last.
+pub fn part_by_number(edition: u32, sheet: &[u8], begin: usize, table: &mut [Record]) -> [u32; 6] {
+    let [mut place, mut records, mut warnings, mut next, mut last] = [0; 5];
+    let (s, n) = (sheet.as_ptr(), sheet.len());
+    let (t, bytes) = (table.as_mut_ptr().cast::<u8>(), std::mem::size_of_val(table));
+    let (p, r, w) = (&mut place, &mut records, &mut warnings);
+    // Sound: as in the crate's own calls.
+    let number = unsafe { lorukinde_read_part_in(edition, s, n, begin, t, bytes, p, r, w, &mut next, &mut last) };
+    [number, place, records, warnings, next, last]
+}
+
+/// How a test reads: in a manner of the crate, or by the number of an edition that there is not, which only the calls for C take.
 #[derive(Clone, Copy)]
 pub enum By {
-    Plain,
-    Edition(u32),
-    House,
+    In(Manner),
+    NoEdition(u32),
 }
 
 impl By {
+    pub const PLAIN: By = By::In(Manner::Edition1);
+
+    pub fn edition(number: u32) -> By {
+        match number {
+            1 => By::PLAIN,
+            2 => By::In(Manner::Edition2),
+            other => By::NoEdition(other),
+        }
+    }
+
     pub fn sheet<'a>(self, sheet: &'a [u8], table: &'a mut [Record]) -> Result<Reading<'a>, Refusal> {
         match self {
-            By::Plain => read_sheet(sheet, table),
-            By::Edition(edition) => read_sheet_in(edition, sheet, table),
-            By::House => read_house_sheet(sheet, table),
+            By::In(manner) => read_sheet_in(manner, sheet, table),
+            By::NoEdition(edition) => Err(refused(by_number(edition, sheet, table))),
         }
     }
 
     pub fn part<'a>(self, sheet: &'a [u8], begin: usize, table: &'a mut [Record]) -> PartReading<'a> {
         match self {
-            By::Plain => read_part(sheet, begin, table),
-            By::Edition(edition) => read_part_in(edition, sheet, begin, table),
-            By::House => read_house_part(sheet, begin, table),
+            By::In(manner) => read_part_in(manner, sheet, begin, table),
+            By::NoEdition(edition) => {
+                let [number, place, records, warnings, next, last] = part_by_number(edition, sheet, begin, table);
+                PartReading {
+                    reading: Err(refused([number, place, records, warnings])),
+                    next: (last == 0).then_some(next as usize),
+                }
+            }
         }
     }
+}
+
+/// The refusal that an answer has to be.
+fn refused([number, place, records, warnings]: [u32; 4]) -> Refusal {
+    assert!(number != 0 && (records, warnings) == (0, 0));
+    Refusal { number, place: place as usize }
 }
 
 /// Words that no reading writes, to see what a reading has left alone.
@@ -156,7 +221,7 @@ pub fn bytes_of(text: &str) -> Vec<u8> {
     let mut bytes = pieces.next().unwrap_or_default().as_bytes().to_vec();
     for piece in pieces {
         bytes.push(u8::from_str_radix(&piece[..2], 16).unwrap());
-        bytes.extend_from_slice(piece[2..].as_bytes());
+        bytes.extend_from_slice(&piece.as_bytes()[2..]);
     }
     bytes
 }

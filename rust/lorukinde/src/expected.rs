@@ -1,0 +1,131 @@
+//! What was completed last before the place where reading could not go on, and so what may stand there.
+//!
+//! The reader itself tells: up to what was completed last the text is one that it accepts, and the last record says what that was.
+use crate::entry::Kind;
+use crate::manner::Manner;
+use crate::names::STATES;
+use crate::read_sheet_in;
+use crate::record::Record;
+
+/// What was completed last in a rule.
+#[derive(Clone, Copy, Debug, PartialEq, Eq)]
+pub(crate) enum Last {
+    /// The rule has only begun.
+    Nothing,
+    Item(Kind),
+    /// A comma, after which a list of this kind goes on.
+    Comma(Kind),
+    Colon,
+    /// `week`, before the numbers of weeks.
+    Week,
+    /// `24/7`
+    Always,
+    /// `open`, `closed`, `off`, `unknown`
+    State,
+    Note,
+}
+
+/// How far a rule was read.
+#[derive(Clone, Copy, Debug, PartialEq, Eq)]
+pub(crate) struct Stage {
+    pub last: Last,
+    /// Where what was completed ends, before the blanks after it.
+    pub done: usize,
+    /// Where the last item begins, or the rule if it has none.
+    pub item: usize,
+    pub has_items: bool,
+}
+
+/// How far the rule was read that could not be read on at this place of a text. None if the text before the place is not one that
+/// was read up to there.
+pub(crate) fn stage(manner: Manner, text: &[u8], place: usize) -> Option<Stage> {
+    let before = &text[..place];
+    let done = before.len() - before.iter().rev().take_while(|byte| **byte == b' ').count();
+    let read = &before[..done];
+    let begun = |last| Some(Stage { last, done, item: place, has_items: false });
+    match read {
+        [] | [.., b';'] | [.., b'|', b'|'] => begun(Last::Nothing),
+        [.., b','] if done < place => begun(Last::Nothing), // with a blank after it, a comma parts rules
+        [list @ .., b','] => {
+            let stage = completed(manner, list)?;
+            match stage.last {
+                Last::Item(kind) => Some(Stage { last: Last::Comma(kind), done, ..stage }),
+                _ => None,
+            }
+        }
+        [.., b':'] => begun(Last::Colon),
+        [.., b'w', b'e', b'e', b'k'] => begun(Last::Week),
+        _ => completed(manner, read),
+    }
+}
+
+/// What a text that is accepted ends with.
+fn completed(manner: Manner, text: &[u8]) -> Option<Stage> {
+    let mut table = vec![Record::EMPTY; text.len()];
+    let reading = read_sheet_in(manner.shapes(), text, &mut table).ok()?;
+    let entry = reading.entries().last()?;
+    let last = match entry.meaning.kind() {
+        _ if text.ends_with(b"\"") => Last::Note,
+        _ if ends_with_state(text) => Last::State,
+        Kind::NoItem => Last::Always,
+        kind => Last::Item(kind),
+    };
+    Some(Stage { last, done: text.len(), item: entry.place, has_items: entry.meaning.kind() != Kind::NoItem })
+}
+
+fn ends_with_state(text: &[u8]) -> bool {
+    let letters = text.iter().rev().take_while(|byte| byte.is_ascii_alphabetic()).count();
+    let word = &text[text.len() - letters..];
+    STATES.iter().any(|state| state.as_bytes().eq_ignore_ascii_case(word))
+}
+
+const REST: &str = "`off`, a note in quotes, or `;` and the next rule";
+
+/// What may stand at a place, before which this was completed and at which this byte stands.
+pub(crate) fn expected(last: Last, byte: Option<u8>) -> String {
+    match (last, byte) {
+        (Last::Item(kind), Some(b'-')) => after_dash(kind).to_string(),
+        (Last::Item(Kind::Days), Some(b'[')) => "marks from 1 to 5 (`Mo[1]`, `Mo[1,3]`, `Mo[1-3]`, `Mo[-1]`)".into(),
+        (_, Some(b'(')) => "an event with its offset in brackets, `(sunset-1:00)`".into(),
+        (Last::Nothing, _) => {
+            "days (`Mo-Fr`), a date (`2020 Dec 25`), times (`09:00-18:00`), `24/7`, `off` or a note in quotes".into()
+        }
+        (Last::Item(kind), _) => format!("{}{REST}", after_item(kind)),
+        (Last::Comma(kind), _) => format!("{} after the comma", another(kind)),
+        (Last::Colon, _) => "a blank, and weekdays or times, after the colon".into(),
+        (Last::Week, _) => "a blank and the number of a week, `week 5`".into(),
+        (Last::Always, _) => REST.into(),
+        (Last::State, _) => "a note in quotes, or `;` and the next rule".into(),
+        (Last::Note, _) => "`;` and the next rule".into(),
+    }
+}
+
+fn after_item(kind: Kind) -> &'static str {
+    match kind {
+        Kind::Years => "dates, weeks, weekdays, times, ",
+        Kind::MonthDays => "weeks, weekdays, times (`09:00-18:00`), ",
+        Kind::Weeks => "weekdays, times (`09:00-18:00`), ",
+        Kind::Days => "times (`09:00-18:00`), ",
+        Kind::Times | Kind::NoItem => "",
+    }
+}
+
+fn after_dash(kind: Kind) -> &'static str {
+    match kind {
+        Kind::Years => "a year of four digits after the `-`, `2020-2022`",
+        Kind::MonthDays => "a date, a day or a month after the `-`, `Dec 24-26` or `Jan-Mar`",
+        Kind::Weeks => "the number of a week after the `-`, `week 1-5`",
+        Kind::Days => "a weekday after the `-`, `Mo-Fr`",
+        Kind::Times | Kind::NoItem => REST,
+    }
+}
+
+fn another(kind: Kind) -> &'static str {
+    match kind {
+        Kind::Years => "another year",
+        Kind::MonthDays => "another month or date",
+        Kind::Weeks => "another number of a week",
+        Kind::Days => "another weekday or holiday (`Tu`, `PH`)",
+        Kind::Times | Kind::NoItem => "other times (`14:00-18:00`)",
+    }
+}
