@@ -33,6 +33,7 @@ pub(crate) struct Stage {
     pub done: usize,
     /// Where the last item begins, or the rule if it has none.
     pub item: usize,
+    /// Whether the rule has items.
     pub has_items: bool,
 }
 
@@ -81,23 +82,48 @@ fn ends_with_state(text: &[u8]) -> bool {
 
 const REST: &str = "`off`, a note in quotes, or `;` and the next rule";
 
-/// What may stand at a place, before which this was completed and at which this byte stands.
-pub(crate) fn expected(last: Last, byte: Option<u8>) -> String {
+/// What may stand at a place of a text that was read so far.
+pub(crate) fn expected(stage: &Stage, text: &[u8], place: usize) -> String {
+    let item = text.get(stage.item..stage.done).unwrap_or_default();
+    match text.get(place).and_then(|byte| begun(stage.last, item, *byte)) {
+        Some(more) => more.into(),
+        None => following(stage, item),
+    }
+}
+
+/// What the byte at the place may have begun: more of the item that was completed, or a time in brackets.
+fn begun(last: Last, item: &[u8], byte: u8) -> Option<&'static str> {
+    let is_holiday = item.starts_with(b"PH") || item.starts_with(b"SH");
+    let is_single = !item.contains(&b'-') && !item.contains(&b'[') && !is_holiday;
     match (last, byte) {
-        (Last::Item(kind), Some(b'-')) => after_dash(kind).to_string(),
-        (Last::Item(Kind::Days), Some(b'[')) => "marks from 1 to 5 (`Mo[1]`, `Mo[1,3]`, `Mo[1-3]`, `Mo[-1]`)".into(),
-        (_, Some(b'(')) => "an event with its offset in brackets, `(sunset-1:00)`".into(),
-        (Last::Nothing, _) => {
+        (Last::Item(kind), b'-') if is_single => after_dash(kind),
+        (Last::Item(Kind::Days), b'[') if is_single => Some("marks from 1 to 5 (`Mo[1]`, `Mo[1,3]`, `Mo[1-3]`, `Mo[-1]`)"),
+        (Last::Item(Kind::Times) | Last::State | Last::Note | Last::Always | Last::Week, b'(') => None,
+        (Last::Comma(kind), b'(') if kind != Kind::Times => None,
+        (_, b'(') => Some("an event with its offset in brackets (`(sunset-1:00)`)"),
+        _ => None,
+    }
+}
+
+fn following(stage: &Stage, item: &[u8]) -> String {
+    match stage.last {
+        Last::Nothing => {
             "days (`Mo-Fr`), a date (`2020 Dec 25`), times (`09:00-18:00`), `24/7`, `off` or a note in quotes".into()
         }
-        (Last::Item(kind), _) => format!("{}{REST}", after_item(kind)),
-        (Last::Comma(kind), _) => format!("{} after the comma", another(kind)),
-        (Last::Colon, _) => "a blank, and weekdays or times, after the colon".into(),
-        (Last::Week, _) => "a blank and the number of a week, `week 5`".into(),
-        (Last::Always, _) => REST.into(),
-        (Last::State, _) => "a note in quotes, or `;` and the next rule".into(),
-        (Last::Note, _) => "`;` and the next rule".into(),
+        Last::Item(kind) => format!("{}{REST}", after_item(kind)),
+        Last::Comma(kind) => format!("{} after the comma", another(kind)),
+        Last::Colon => "a blank, and weekdays or times, after the colon".into(),
+        Last::Week => "a blank and the number of a week (`week 5`)".into(),
+        Last::Always => REST.into(),
+        Last::State => "a note in quotes, or `;` and the next rule".into(),
+        Last::Note if is_note_alone(stage, item) => "`:` and days or times, or `;` and the next rule".into(),
+        Last::Note => "`;` and the next rule".into(),
     }
+}
+
+/// Whether a rule is a note so far, to which `:` may be added.
+fn is_note_alone(stage: &Stage, rule: &[u8]) -> bool {
+    !stage.has_items && rule.starts_with(b"\"")
 }
 
 fn after_item(kind: Kind) -> &'static str {
@@ -110,13 +136,13 @@ fn after_item(kind: Kind) -> &'static str {
     }
 }
 
-fn after_dash(kind: Kind) -> &'static str {
+fn after_dash(kind: Kind) -> Option<&'static str> {
     match kind {
-        Kind::Years => "a year of four digits after the `-`, `2020-2022`",
-        Kind::MonthDays => "a date, a day or a month after the `-`, `Dec 24-26` or `Jan-Mar`",
-        Kind::Weeks => "the number of a week after the `-`, `week 1-5`",
-        Kind::Days => "a weekday after the `-`, `Mo-Fr`",
-        Kind::Times | Kind::NoItem => REST,
+        Kind::Years => Some("a year of four digits after the `-` (`2020-2022`)"),
+        Kind::MonthDays => Some("a date, a day or a month after the `-` (`Dec 24-26`, `Jan-Mar`)"),
+        Kind::Weeks => Some("the number of a week after the `-` (`week 1-5`)"),
+        Kind::Days => Some("a weekday after the `-` (`Mo-Fr`)"),
+        Kind::Times | Kind::NoItem => None,
     }
 }
 

@@ -85,7 +85,7 @@ fn no_shape(spot: &Spot<'_>) -> String {
         None => "the rule ends too early".into(),
     };
     match spot.stage {
-        Some(stage) => format!("{found}: expected {}", expected(stage.last, spot.text.get(spot.place).copied())),
+        Some(stage) => format!("{found}: expected {}", expected(&stage, spot.text, spot.place)),
         None => found,
     }
 }

@@ -14,6 +14,7 @@
 //! and [`read_part`] a single part, both into a table that the caller lends and without allocating. [`read_feed`] takes many
 //! sheets at once, one a line. These read by edition 1 of the sheet rules; [`parts_in`], [`read_sheet_in`] and [`read_part_in`]
 //! in the [`Manner`] that they are given: edition 1, edition 2, or the house profile.
+//! [`explain`] says why a part is refused and what to write instead.
 //! The records' words, in [`Entry`], and the refusals' numbers, in [`Refusal`], are those of `include/lorukinde.h`.
 #![warn(missing_debug_implementations)]
 #![deny(unsafe_code)]

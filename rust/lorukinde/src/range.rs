@@ -23,10 +23,11 @@ pub(crate) fn wrong(spot: &Spot<'_>) -> String {
 
 /// The first number with which the item is refused, if the text ends after it.
 fn number(spot: &Spot<'_>) -> Option<Range<usize>> {
+    let mut table = vec![Record::EMPTY; spot.text.len()];
     let mut at = spot.place;
     loop {
         let range = next_number(spot.text, at)?;
-        if is_refused(spot, completed(Scan::new(spot.text, range.end))) {
+        if is_refused(spot, completed(Scan::new(spot.text, range.end)), &mut table) {
             return Some(range);
         }
         at = range.end;
@@ -47,11 +48,10 @@ fn completed(after: Scan<'_>) -> usize {
     bracket.or_else(days).unwrap_or(after).at
 }
 
-fn is_refused(spot: &Spot<'_>, end: usize) -> bool {
-    let text = &spot.text[..end];
-    let mut table = vec![Record::EMPTY; text.len()];
+/// Whether the item is refused for a number if the text ends there.
+fn is_refused(spot: &Spot<'_>, end: usize, table: &mut [Record]) -> bool {
     // Numbers have the same ranges in both editions; in edition 2 a start that is written alone is complete.
-    let refusal = read_sheet_in(Manner::Edition2, text, &mut table).err();
+    let refusal = read_sheet_in(Manner::Edition2, &spot.text[..end], table).err();
     refusal == Some(Refusal { number: Refusal::RANGE, place: spot.place })
 }
 

@@ -134,17 +134,18 @@ pub(crate) fn hint(manner: Manner, spot: &Spot<'_>) -> Option<Hint> {
 /// The hint, with those of its proposals that help.
 fn that_helps(manner: Manner, spot: &Spot<'_>, mut hint: Hint) -> Option<Hint> {
     let range = hint.range.clone();
-    hint.write.retain(|write| trial(manner, spot, &range, write).is_none());
+    hint.write.retain(|write| still_refused(manner, spot, &range, write).is_none());
     (!hint.write.is_empty()).then_some(hint)
 }
 
-/// The text with this written in the range, and its refusal, if that helps nothing: if it is refused and not later than before.
-fn trial(manner: Manner, spot: &Spot<'_>, range: &Range<usize>, write: &str) -> Option<(Vec<u8>, Refusal)> {
+/// The text with this written in the range, and its refusal, where that does not help: where it is refused and not later than before.
+fn still_refused(manner: Manner, spot: &Spot<'_>, range: &Range<usize>, write: &str) -> Option<(Vec<u8>, Refusal)> {
     let text = [&spot.text[..range.start], write.as_bytes(), &spot.text[range.end..]].concat();
     let mut table = vec![Record::EMPTY; text.len()];
     let refusal = read_sheet_in(manner, &text, &mut table).err()?;
     // What breaks the house profile is seen only in a text that is else good: it stood there before.
-    let stood_before = refusal.number >= Refusal::HOUSE_FORM && refusal.place < range.start;
+    let is_of_house = matches!(refusal.number, Refusal::HOUSE_FORM | Refusal::HOUSE_ORDER);
+    let stood_before = is_of_house && refusal.place < range.start;
     let end = range.start + write.len();
     // A sign, or one left out, has helped only if something more was read after it.
     let is_complete = write.ends_with(|last: char| last.is_alphanumeric() || "\"+".contains(last));
@@ -156,7 +157,7 @@ fn trial(manner: Manner, spot: &Spot<'_>, range: &Range<usize>, write: &str) -> 
 /// A sign that does not help alone, with what helps the item after it.
 fn with_next(manner: Manner, spot: &Spot<'_>, hint: &Hint) -> Option<Hint> {
     let sign = hint.write.first().filter(|_| hint.joins)?;
-    let (text, refusal) = trial(manner, spot, &hint.range, sign)?;
+    let (text, refusal) = still_refused(manner, spot, &hint.range, sign)?;
     let after = Spot { text: &text, number: refusal.number, place: refusal.place, stage: stage(manner, &text, refusal.place) };
     let next = ITEMS.iter().find_map(|slip| that_helps(manner, &after, slip(&after)?))?;
     let end = hint.range.start + sign.len();

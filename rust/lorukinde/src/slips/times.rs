@@ -51,11 +51,11 @@ pub(super) fn spans(spot: &Spot<'_>) -> Option<Hint> {
     Some(Hint::new(spot.text, begin.until(end), write, because?))
 }
 
-/// `24-7`
+/// `24-7`, `24 / 7`
 pub(super) fn always(spot: &Spot<'_>) -> Option<Hint> {
     let begin = Scan::new(spot.text, spot.place);
     let (hours, _, after) = begin.number(2)?;
-    let (_, after) = after.blanks().one(|sign| "-/x".contains(sign))?;
+    let after = signs::dash_between(after).map(|(after, _)| after).or_else(|| after.blanks().byte(b'/'))?;
     let (days, _, end) = after.blanks().number(1)?;
     ((hours, days) == (24, 7)).then(|| Hint::new(spot.text, begin.until(end), "24/7", ""))
 }
