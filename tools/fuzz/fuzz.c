@@ -14,7 +14,7 @@
 
 #include "lorukinde.h"
 
-enum { PAGE = 4096, SHEET_ROOM = 6 * PAGE, RECORDS = 2740, TABLE_ROOM = 43 * PAGE, NEAR = 256, NUMBERS = 5, MOST = LORUKINDE_SHEET_BYTES, ANSWER_ROOM = 4 * PAGE };
+enum { PAGE = 4096, SHEET_ROOM = 6 * PAGE, RECORDS = 2740, TABLE_ROOM = 43 * PAGE, NEAR = 256, NUMBERS = 5, MOST = LORUKINDE_SHEET_BYTES, ANSWER_ROOM = 4 * PAGE, PROGRESS_CALLS = 250000 };
 
 /* ---- random numbers: splitmix64 */
 static uint64_t state;
@@ -1060,6 +1060,16 @@ static void counts(const char *name, const uint64_t *numbers, size_t n)
     printf("\n");
 }
 
+/* how far it is, on a terminal */
+static void show_progress(uint64_t wanted)
+{
+    static uint64_t shown;
+    if (calls - shown < PROGRESS_CALLS || !isatty(STDERR_FILENO))
+        return;
+    shown = calls;
+    fprintf(stderr, "\r%llu of %llu calls", (unsigned long long)calls, (unsigned long long)wanted);
+}
+
 int main(int argc, char **argv)
 {
     if (argc != 4 || (strcmp(argv[3], "end") && strcmp(argv[3], "begin"))) {
@@ -1079,8 +1089,12 @@ int main(int argc, char **argv)
     memcpy(marks, table_room.own, TABLE_ROOM);
     signal(SIGSEGV, stepped_outside);
     signal(SIGBUS, stepped_outside);
-    for (; calls < wanted; rounds++)
+    for (; calls < wanted; rounds++) {
         chance(15) ? round_of_feeds() : round_of_sheets();
+        show_progress(wanted);
+    }
+    if (isatty(STDERR_FILENO))
+        fprintf(stderr, "\r\033[K"); /* the line is erased */
     printf("seed %s, each buffer's %s at an unreadable page: %llu sheets and feeds, %llu calls, nothing wrong\n", argv[1], argv[3], (unsigned long long)rounds, (unsigned long long)calls);
     for (int how = 0; how < HOWS; how++) {
         char name[64];

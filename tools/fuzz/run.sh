@@ -16,11 +16,13 @@ build "$dir/faulty" "$here/fuzz.c" "$here/faults.c" "${wraps[@]}"
 FAULT=0 "${emulator[@]}" "$dir/faulty" "$seed" 100000 end >/dev/null
 found=0
 for ((n = 1; n <= faults; n++)); do
+    if [ -t 2 ]; then printf '\rfault %d of %d' "$n" "$faults" >&2; fi
     ended=0
     for side in end begin; do # (a step over one side is seen where the unreadable page is, or by its mark)
         FAULT=$n "${emulator[@]}" "$dir/faulty" "$seed" 100000 $side >"$dir/log" || ended=1
     done
     if [ $ended = 1 ]; then found=$((found + 1)); else echo "not found: fault $n"; fi
 done
+if [ -t 2 ]; then printf '\r\033[K' >&2; fi
 echo "planted faults found: $found of $faults"
 [ $found = $faults ]

@@ -272,6 +272,20 @@ def said(process):
         sys.exit(f"stopped with {process.returncode}: {shlex.join(process.args)}")
 
 
+SHEETS_PER_LINE = 10000  # progress is shown once in so many sheets
+
+
+def show_progress(sheets_read):
+    """how far it is, on a terminal"""
+    if sheets_read % SHEETS_PER_LINE == 0 and sys.stderr.isatty():
+        print(f"\r{sheets_read} sheets", end="", file=sys.stderr, flush=True)
+
+
+def erase_progress():
+    if sys.stderr.isatty():
+        print("\r\033[K", end="", file=sys.stderr, flush=True)
+
+
 def main():
     p = argparse.ArgumentParser()
     p.add_argument("--seed", type=int, default=1)
@@ -290,7 +304,8 @@ def main():
             f.writelines(s + b"\n" for s in all_sheets(args))
         rust = said(subprocess.Popen([oracle, path], stdout=subprocess.PIPE))
         ours = said(subprocess.Popen([*shlex.split(args.ours), path], stdout=subprocess.PIPE))
-        for s in open(path, "rb"):
+        for n, s in enumerate(open(path, "rb")):
+            show_progress(n)
             s = s[:-1]
             lines = our_answer(ours)
             tally.take(s, next(rust), lines)
@@ -298,6 +313,7 @@ def main():
                 tally.hold(s, lines)
         if list(rust) or list(ours):
             sys.exit("more answers than sheets")
+    erase_progress()
     tally.report()
     sys.exit(tally.unlisted + tally.otherwise > 0)
 
