@@ -4,10 +4,11 @@ use std::ops::Range;
 use crate::entry::Kind;
 use crate::expected::Last;
 use crate::manner::Manner;
+use crate::names::MONTHS;
 use crate::read_sheet_in;
 use crate::record::Record;
 use crate::refusal::Refusal;
-use crate::scan::Scan;
+use crate::scan::{Scan, YEAR_DIGITS};
 use crate::slips::Spot;
 
 /// What is wrong with the item at the place.
@@ -21,17 +22,19 @@ pub(crate) fn wrong(spot: &Spot<'_>) -> String {
     }
 }
 
-/// The first number with which the item is refused, if the text ends after it.
+/// The first number with which the item is refused, if the text ends after it and the shortest end that its shape needs.
 fn number(spot: &Spot<'_>) -> Option<Range<usize>> {
-    let mut table = vec![Record::EMPTY; spot.text.len()];
+    const ENDS: [&str; 5] = ["", "]", ")", " day", " Jan 1"];
+    const MOST_LOOKS: usize = 50; // each look is a reading, and a list of marks may be long
     let mut at = spot.place;
-    loop {
+    for _ in 0..MOST_LOOKS {
         let range = next_number(spot.text, at)?;
-        if is_refused(spot, completed(Scan::new(spot.text, range.end)), &mut table) {
+        if ENDS.iter().any(|end| is_refused(spot, &[&spot.text[..range.end], end.as_bytes()].concat())) {
             return Some(range);
         }
         at = range.end;
     }
+    None
 }
 
 /// The next digits, with the colons between them.
@@ -41,38 +44,52 @@ fn next_number(text: &[u8], from: usize) -> Option<Range<usize>> {
     Some(begin..begin + length)
 }
 
-/// The place after a number's bracket, or after its `days`: before that its item is not complete.
-fn completed(after: Scan<'_>) -> usize {
-    let bracket = after.byte(b']').or_else(|| after.byte(b')'));
-    let days = || Some(after.blanks().one_word(&["day", "days"])?.1);
-    bracket.or_else(days).unwrap_or(after).at
-}
-
-/// Whether the item is refused for a number if the text ends there.
-fn is_refused(spot: &Spot<'_>, end: usize, table: &mut [Record]) -> bool {
+/// Whether the item is refused for a number if the text is this.
+fn is_refused(spot: &Spot<'_>, text: &[u8]) -> bool {
+    let mut table = vec![Record::EMPTY; text.len()];
     // Numbers have the same ranges in both editions; in edition 2 a start that is written alone is complete.
-    let refusal = read_sheet_in(Manner::Edition2, &spot.text[..end], table).err();
+    let refusal = read_sheet_in(Manner::Edition2, text, &mut table).err();
     refusal == Some(Refusal { number: Refusal::RANGE, place: spot.place })
 }
 
 /// What a number may be, by what stands around it.
 fn limits(spot: &Spot<'_>, number: &Range<usize>) -> &'static str {
-    let (item, before) = (&spot.text[spot.place..], spot.text[..number.start].last());
-    let after = Scan::new(spot.text, number.end);
+    let item = &spot.text[spot.place..];
+    let before = &spot.text[spot.place..number.start];
     let is_clock = spot.text[number.clone()].contains(&b':');
-    let in_weeks = spot.stage.map_or(false, |stage| matches!(stage.last, Last::Week | Last::Comma(Kind::Weeks)));
-    let is_year = number.len() >= 4 && (number.start == spot.place || item.iter().take(4).all(u8::is_ascii_digit));
-    match before {
-        Some(b'/') if is_clock => "a repeat goes up to 23:59",
+    match before.last() {
+        Some(b'/') if is_clock => "a repeat goes up to 23:59, its minutes up to 59",
         Some(b'/') if item.contains(&b':') => "minutes go from 00 to 59",
         Some(b'/') => "a step goes up to 32,767",
-        _ if is_clock && after.byte(b')').is_some() => "the time before or after an event goes up to 24:00",
+        Some(b'+' | b'-') if is_clock && before.contains(&b'(') => {
+            "the time before or after an event goes up to 24:00, its minutes up to 59"
+        }
         Some(b'-') if is_clock => "a time that ends a span goes up to 48:00, its minutes up to 59",
         _ if is_clock => "a time goes from 00:00 to 24:00, its minutes up to 59",
-        Some(b'+' | b'-') if after.blanks().at > after.at && completed(after) > number.end => "a day offset goes up to 32,767",
-        _ if item.contains(&b'[') && !after.rest().is_empty() && b"],-".contains(&after.rest()[0]) => "marks go from 1 to 5",
-        _ if in_weeks => "weeks go from 1 to 53",
-        _ if is_year => "years go from 1900 to 9999",
+        _ if before.ends_with(b" +") || before.ends_with(b" -") => "a day offset goes up to 32,767",
+        _ if is_in_brackets(before) => "marks go from 1 to 5",
+        _ if is_of_weeks(spot) => "weeks go from 1 to 53",
+        _ if is_year(spot, number) => "years go from 1900 to 9999",
         _ => "days go from 1 to 31",
     }
+}
+
+fn is_in_brackets(before: &[u8]) -> bool {
+    let last = |bracket| before.iter().rposition(|byte| *byte == bracket);
+    last(b'[') > last(b']')
+}
+
+fn is_of_weeks(spot: &Spot<'_>) -> bool {
+    spot.stage.map_or(false, |stage| matches!(stage.last, Last::Week | Last::Comma(Kind::Weeks)))
+}
+
+/// Whether a number of four digits is a year: the first of its item, after the `-` of a year, or before a month or `easter`.
+fn is_year(spot: &Spot<'_>, number: &Range<usize>) -> bool {
+    const FIRST_YEAR: &[u8] = b"1900";
+    let after_year = || Scan::new(spot.text, spot.place).number(YEAR_DIGITS)?.2.byte(b'-');
+    let is_second = after_year().map_or(false, |after| after.at == number.start);
+    let word = Scan::new(spot.text, number.end).blanks().word().map(|(word, _)| word).unwrap_or_default();
+    let before_month = MONTHS.iter().chain(&["easter"]).any(|name| name.eq_ignore_ascii_case(&word));
+    let ends_span = before_month && &spot.text[number.clone()] < FIRST_YEAR; // else it is a bare day with digits left over
+    number.len() >= YEAR_DIGITS && (number.start == spot.place || is_second || ends_span)
 }

@@ -3,6 +3,11 @@ use std::ops::Range;
 
 use crate::place::{first_character, Character};
 
+/// How many digits a year has, and at most a day, a month, an hour or minutes, and a count of days.
+pub(crate) const YEAR_DIGITS: usize = 4;
+pub(crate) const SHORT_DIGITS: usize = 2;
+pub(crate) const COUNT_DIGITS: usize = 5;
+
 #[derive(Clone, Copy, Debug)]
 pub(crate) struct Scan<'a> {
     pub text: &'a [u8],

@@ -58,8 +58,8 @@ fn each_slip_has_its_sentence() {
     assert!(slips >= 60 && proposals >= 60);
 }
 
-/// Sheets of the lists, each with one byte damaged: every refused part has a sentence that says what was expected, and what its hint
-/// says to write helps.
+/// Sheets of the lists, each with one byte damaged: every refused part has a sentence that says what was expected, or which number
+/// is out of range, and what its hint says to write helps.
 #[test]
 fn damaged_sheets() {
     const EVERY: usize = 7; // of the sheets in the lists
@@ -72,7 +72,11 @@ fn damaged_sheets() {
             let sheet = [&sheet[..at], damage, &sheet[at + 1..]].concat();
             let before = refused(Manner::Edition1, &sheet);
             for (n, (refusal, explanation)) in before.iter().enumerate() {
-                let says_what = refusal.number != Refusal::NO_SHAPE || explanation.wrong.contains(": expected ");
+                let says_what = match refusal.number {
+                    Refusal::NO_SHAPE => explanation.wrong.contains(": expected "),
+                    Refusal::RANGE => explanation.wrong.contains("` is out of range: "),
+                    _ => true,
+                };
                 assert!(says_what, "{:?}: {explanation}", String::from_utf8_lossy(&sheet));
                 proposals += hold_hint(Manner::Edition1, &sheet, &before, n);
             }

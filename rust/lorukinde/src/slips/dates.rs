@@ -4,7 +4,7 @@ use crate::entry::Kind;
 use crate::expected::Last;
 use crate::foreign;
 use crate::names::MONTHS;
-use crate::scan::Scan;
+use crate::scan::{Scan, SHORT_DIGITS, YEAR_DIGITS};
 
 const BECAUSE: &str = "a date is written year, month, day";
 
@@ -28,10 +28,10 @@ pub(super) fn date(spot: &Spot<'_>) -> Option<Hint> {
 /// A year after a date or a month, `Dec 25 2020`.
 pub(super) fn year_after_date(spot: &Spot<'_>) -> Option<Hint> {
     let stage = spot.stage.filter(|stage| stage.last == Last::Item(Kind::MonthDays))?;
-    let (year, digits, end) = Scan::new(spot.text, spot.place).number(4)?;
+    let (year, digits, end) = Scan::new(spot.text, spot.place).number(YEAR_DIGITS)?;
     let date = std::str::from_utf8(&spot.text[stage.item..stage.done]).ok()?;
     let has_year = date.starts_with(|first: char| first.is_ascii_digit());
-    (digits == 4 && !has_year).then(|| Hint::new(spot.text, stage.item..end.at, format!("{year} {date}"), BECAUSE))
+    (digits == YEAR_DIGITS && !has_year).then(|| Hint::new(spot.text, stage.item..end.at, format!("{year} {date}"), BECAUSE))
 }
 
 fn single(scan: Scan<'_>) -> Option<(String, Scan<'_>)> {
@@ -82,18 +82,18 @@ fn whole(scan: Scan<'_>) -> Option<(Date, Scan<'_>)> {
 
 /// `2020-12-25`, `2020/12/25`, `2020.12.25`
 fn year_first(scan: Scan<'_>) -> Option<(Date, Scan<'_>)> {
-    let (year, digits, after) = scan.number(4)?;
+    let (year, digits, after) = scan.number(YEAR_DIGITS)?;
     let (sign, after) = after.one(|sign| "-/.".contains(sign))?;
-    let (month, _, after) = after.number(2)?;
+    let (month, _, after) = after.number(SHORT_DIGITS)?;
     let (_, after) = after.one(|other| other == sign)?;
-    let (day, _, end) = after.number(2)?;
-    (digits == 4).then_some((Date { year: Some(year), month: Some(month as usize), day }, end))
+    let (day, _, end) = after.number(SHORT_DIGITS)?;
+    (digits == YEAR_DIGITS).then_some((Date { year: Some(year), month: Some(month as usize), day }, end))
 }
 
 /// `25.12.2020`, `25.12.`; without the last dot it may be a time
 fn dotted(scan: Scan<'_>) -> Option<(Date, Scan<'_>)> {
-    let (day, _, after) = scan.number(2)?;
-    let (month, _, after) = after.byte(b'.')?.blanks().number(2)?;
+    let (day, _, after) = scan.number(SHORT_DIGITS)?;
+    let (month, _, after) = after.byte(b'.')?.blanks().number(SHORT_DIGITS)?;
     let after = after.byte(b'.')?;
     let (year, end) = year_here(after.blanks()).map_or((None, after), |(year, end)| (Some(year), end));
     Some((Date { year, month: Some(month as usize), day }, end))
@@ -101,9 +101,9 @@ fn dotted(scan: Scan<'_>) -> Option<(Date, Scan<'_>)> {
 
 /// `25/12/2020` or `12/25/2020`: sure only where one of the two can be no month
 fn slashed(scan: Scan<'_>) -> Option<(Date, Scan<'_>)> {
-    let (one, _, after) = scan.number(2)?;
+    let (one, _, after) = scan.number(SHORT_DIGITS)?;
     let (sign, after) = after.one(|sign| "/-".contains(sign))?;
-    let (two, _, after) = after.number(2)?;
+    let (two, _, after) = after.number(SHORT_DIGITS)?;
     let (_, after) = after.one(|other| other == sign)?;
     let (year, end) = year_here(after)?;
     let is_month = |number| number as usize <= MONTHS.len();
@@ -127,13 +127,13 @@ fn named(scan: Scan<'_>) -> Option<(Date, Scan<'_>)> {
 
 /// `25`, `25.`, `1st`
 fn day(scan: Scan<'_>) -> Option<(Date, Scan<'_>)> {
-    let (day, _, after) = scan.number(2)?;
+    let (day, _, after) = scan.number(SHORT_DIGITS)?;
     let end = after.byte(b'.').or_else(|| Some(after.one_word(&super::words::ORDINALS)?.1)).unwrap_or(after);
     Some((Date { year: None, month: None, day }, end))
 }
 
 fn year_here(scan: Scan<'_>) -> Option<(u32, Scan<'_>)> {
-    let (year, digits, end) = scan.number(4)?;
+    let (year, digits, end) = scan.number(YEAR_DIGITS)?;
     let is_clock = end.byte(b':').is_some();
-    (digits == 4 && !is_clock).then_some((year, end))
+    (digits == YEAR_DIGITS && !is_clock).then_some((year, end))
 }

@@ -3,7 +3,7 @@ use super::{signs, Hint, Spot};
 use crate::entry::Kind;
 use crate::expected::Last;
 use crate::names::MONTHS;
-use crate::scan::Scan;
+use crate::scan::{Scan, SHORT_DIGITS};
 
 /// Which half of the day a time of the twelve hour clock is in.
 #[derive(Clone, Copy, PartialEq)]
@@ -26,6 +26,9 @@ const AFTER_TIME: [(&str, Option<Half>); 9] = [
 ];
 const FROM: [&str; 6] = ["ab", "from", "dès", "des", "dalle", "vanaf"];
 const NOON: u32 = 12;
+/// Of a time without a sign, `0930`: its digits, and by how much it grows with the hour.
+const CLOCK_DIGITS: usize = 4;
+const HOUR_STEP: u32 = 100;
 
 struct Time {
     text: String,
@@ -54,18 +57,22 @@ pub(super) fn spans(spot: &Spot<'_>) -> Option<Hint> {
 /// `24-7`, `24 / 7`
 pub(super) fn always(spot: &Spot<'_>) -> Option<Hint> {
     let begin = Scan::new(spot.text, spot.place);
-    let (hours, _, after) = begin.number(2)?;
+    let (hours, _, after) = begin.number(SHORT_DIGITS)?;
     let after = signs::dash_between(after).map(|(after, _)| after).or_else(|| after.blanks().byte(b'/'))?;
     let (days, _, end) = after.blanks().number(1)?;
     ((hours, days) == (24, 7)).then(|| Hint::new(spot.text, begin.until(end), "24/7", ""))
 }
 
-/// `ab 10:00`
+/// `ab 10:00`, `from 10:00 to 12:00`
 pub(super) fn from_a_time_on(spot: &Spot<'_>) -> Option<Hint> {
     let begin = Scan::new(spot.text, spot.place);
     let (word, after) = begin.one_word(&FROM)?;
-    let (time, end) = time(after.blanks())?;
-    Some(Hint::new(spot.text, begin.until(end), format!("{}+", time.text), format!("`+` says `{word}`")))
+    let (start, end) = time(after.blanks())?;
+    if signs::dash_between(end).is_some() {
+        let (write, end, _) = span(after.blanks())?;
+        return Some(Hint::new(spot.text, begin.until(end), write, ""));
+    }
+    Some(Hint::new(spot.text, begin.until(end), format!("{}+", start.text), format!("`+` says `{word}`")))
 }
 
 /// `10:00-12:00/5`
@@ -78,7 +85,7 @@ pub(super) fn repeat(spot: &Spot<'_>) -> Option<Hint> {
 
 /// `10.12-14.12` is times, or a day and a month.
 fn may_be_dates(scan: Scan<'_>) -> bool {
-    let month = || scan.number(2)?.2.byte(b'.')?.number(2);
+    let month = || scan.number(SHORT_DIGITS)?.2.byte(b'.')?.number(SHORT_DIGITS);
     month().map_or(false, |(month, _, _)| (1..=MONTHS.len()).contains(&(month as usize)))
 }
 
@@ -106,9 +113,9 @@ fn time(scan: Scan<'_>) -> Option<(Time, Scan<'_>)> {
 
 /// Hours and minutes, `9`, `9:30`, `9.30`, `9h30`, `0930`, `9:30:00`, and what is unusual about them.
 fn clock(scan: Scan<'_>) -> Option<(u32, u32, Scan<'_>, Option<String>)> {
-    let (first, digits, after) = scan.number(4)?;
+    let (first, digits, after) = scan.number(CLOCK_DIGITS)?;
     match digits {
-        1 | 2 => Some(match minutes(after) {
+        1..=SHORT_DIGITS => Some(match minutes(after) {
             Some((':', minute, after)) => match minutes(after) {
                 Some((':', 0, end)) => (first, minute, end, Some("a time has no seconds".into())),
                 _ => (first, minute, after, None),
@@ -116,15 +123,15 @@ fn clock(scan: Scan<'_>) -> Option<(u32, u32, Scan<'_>, Option<String>)> {
             Some((sign, minute, after)) => (first, minute, after, Some(format!("`{sign}` is written `:`"))),
             None => (first, 0, after, Some("a time has hours and minutes".into())),
         }),
-        4 => Some((first / 100, first % 100, after, Some("`:` stands between hours and minutes".into()))),
+        CLOCK_DIGITS => Some((first / HOUR_STEP, first % HOUR_STEP, after, Some("`:` stands between hours and minutes".into()))),
         _ => None,
     }
 }
 
 fn minutes(scan: Scan<'_>) -> Option<(char, u32, Scan<'_>)> {
     let (sign, after) = scan.one(|sign| ":.h".contains(sign))?;
-    let (minute, digits, after) = after.number(2)?;
-    (digits == 2).then_some((sign, minute, after))
+    let (minute, digits, after) = after.number(SHORT_DIGITS)?;
+    (digits == SHORT_DIGITS).then_some((sign, minute, after))
 }
 
 /// What stands after a time and is left out: which half of the day it says, and why it is left out.

@@ -4,7 +4,7 @@ use crate::entry::{Kind, Month, Weekday};
 use crate::expected::Last;
 use crate::foreign;
 use crate::names::{MONTHS, WEEKDAYS};
-use crate::scan::Scan;
+use crate::scan::{Scan, COUNT_DIGITS};
 
 pub(super) const ORDINALS: [&str; 4] = ["st", "nd", "rd", "th"];
 
@@ -38,7 +38,7 @@ pub(super) fn day_offset(spot: &Spot<'_>) -> Option<Hint> {
     let stage = spot.stage.filter(|stage| matches!(stage.last, Last::Item(_)))?;
     let begin = Scan::new(spot.text, stage.done);
     let (sign, after) = begin.blanks().one(|sign| "+-".contains(sign))?;
-    let (count, _, after) = after.blanks().number(5)?;
+    let (count, _, after) = after.blanks().number(COUNT_DIGITS)?;
     let (word, end) = after.blanks().word()?;
     let is_days = foreign::written(&word).eq(["days"]);
     let unit = if count == 1 { "day" } else { "days" };
