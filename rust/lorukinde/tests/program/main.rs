@@ -173,6 +173,16 @@ fn the_helps_examples() {
     }
 }
 
+/// The operator's example in README.md: what is written follows its call, indented as the call is.
+#[test]
+fn the_readmes_example() {
+    let readme = String::from_utf8(common::lines_of("README.md").unwrap().join(&b'\n')).unwrap();
+    let (_, example) = readme.split_once("    printf '").unwrap();
+    let (sheet, rest) = example.split_once("\\n' | bash tools/lorukinde.sh say\n\nwrites\n\n").unwrap();
+    let written: String = rest.lines().map_while(|line| Some(format!("{}\n", line.strip_prefix("    ")?))).collect();
+    assert_eq!(run(&["say"], sheet), Ran::new(1, &written, ""));
+}
+
 /// What the object of each sheet of a list says of its parts is what the crate reads.
 #[test]
 fn json_of_a_list() {
