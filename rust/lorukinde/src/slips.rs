@@ -28,7 +28,7 @@ pub struct Hint {
     /// What stands in the range, to be shown.
     found: String,
     because: String,
-    /// A sign between two items, where the second may have a slip too, as in `Mo – Mi`.
+    /// A sign or a blank between two items, where the second may have a slip too, as in `Mo – Mi`.
     joins: bool,
 }
 
@@ -38,9 +38,9 @@ impl Hint {
         Hint { range, write: vec![write.into()], found, because: because.into(), joins: false }
     }
 
-    /// A sign that joins two items.
-    fn joining(text: &[u8], range: Range<usize>, sign: &str) -> Hint {
-        Hint { joins: true, ..Hint::new(text, range, sign, "") }
+    /// What is written between two items.
+    fn joining(text: &[u8], range: Range<usize>, sign: &str, because: &str) -> Hint {
+        Hint { joins: true, ..Hint::new(text, range, sign, because) }
     }
 
     /// A hint that needs no trial: these bytes are left out.
@@ -57,16 +57,17 @@ impl Hint {
 impl fmt::Display for Hint {
     fn fmt(&self, f: &mut fmt::Formatter<'_>) -> fmt::Result {
         let (found, write) = (self.found.trim_matches(' '), self.write.join("` or `"));
-        match (found, write.trim_start()) {
+        let shown = if self.found.starts_with(' ') { write.trim_start() } else { &write };
+        match (found, shown.trim()) {
             ("", "") if write.is_empty() => write!(f, "leave it out")?,
             (_, "") if write.is_empty() => write!(f, "leave `{found}` out")?,
             ("", "") => write!(f, "write a blank before it")?,
             (sign, "") if sign.is_ascii() && sign.trim() == sign => write!(f, "write a blank, not `{sign}`")?,
             (_, "") => write!(f, "write a blank for it")?,
-            ("", write) => write!(f, "write `{write}` before it")?,
-            (same, text) if same == text && write.len() > self.found.len() => write!(f, "write a blank before it")?,
+            ("", _) => write!(f, "write `{shown}` before it")?,
+            (same, text) if same == text && shown.starts_with(' ') => write!(f, "write a blank before it")?,
             (same, text) if same == text => write!(f, "write `{text}` without blanks")?,
-            (found, text) => write!(f, "write `{text}`, not `{found}`")?,
+            _ => write!(f, "write `{shown}`, not `{found}`")?,
         }
         match self.because.as_str() {
             "" => Ok(()),

@@ -34,7 +34,7 @@ pub(super) fn dash(spot: &Spot<'_>) -> Option<Hint> {
     let begin = Scan::new(spot.text, spot.stage?.done);
     let (end, _) = dash_between(begin)?;
     let is_right = begin.until(end).len() == 1 && begin.byte(b'-').is_some();
-    (!is_right).then(|| Hint::joining(spot.text, begin.until(end), "-"))
+    (!is_right).then(|| Hint::joining(spot.text, begin.until(end), "-", ""))
 }
 
 /// A blank that is not byte 32: a tab, a no-break blank
@@ -75,7 +75,7 @@ pub(super) fn and(spot: &Spot<'_>) -> Option<Hint> {
     let sign = begin.blanks().one(is_sign);
     let end = sign.map(|(_, end)| end).or_else(|| Some(begin.blanks().one_word(&AND)?.1))?;
     let end = end.byte(b'.').unwrap_or(end);
-    Some(Hint::joining(spot.text, begin.until(end.blanks()), ","))
+    Some(Hint::joining(spot.text, begin.until(end.blanks()), ",", ""))
 }
 
 /// `Dec 25.`, `Mo.`
@@ -98,13 +98,13 @@ pub(super) fn missing_blank(spot: &Spot<'_>) -> Option<Hint> {
         Last::Comma(kind) => kind == Kind::Times && begins_with_days(spot),
         _ => true,
     };
-    is_sure.then(|| Hint::new(spot.text, spot.place..spot.place, " ", ""))
+    is_sure.then(|| Hint::joining(spot.text, spot.place..spot.place, " ", ""))
 }
 
 /// `09:00-12:00 14:00-18:00`. In `Mo Fr` it may be `-` that is missing.
 pub(super) fn missing_comma(spot: &Spot<'_>) -> Option<Hint> {
     let stage = spot.stage.filter(|stage| stage.last == Last::Item(Kind::Times))?;
-    Some(Hint { found: String::new(), ..Hint::new(spot.text, stage.done..spot.place, ",", "without a blank") })
+    Some(Hint { found: String::new(), ..Hint::joining(spot.text, stage.done..spot.place, ",", "without a blank") })
 }
 
 /// `Mo,10:00-12:00`
@@ -136,5 +136,5 @@ pub(super) fn missing_semicolon(spot: &Spot<'_>) -> Option<Hint> {
         Last::State | Last::Note => stage.has_items,
         _ => false,
     };
-    ends_rule.then(|| Hint::new(spot.text, stage.done..stage.done, ";", "a new rule begins there"))
+    ends_rule.then(|| Hint::joining(spot.text, stage.done..stage.done, ";", "a new rule begins there"))
 }

@@ -26,11 +26,13 @@ const AFTER_TIME: [(&str, Option<Half>); 9] = [
 ];
 const FROM: [&str; 6] = ["ab", "from", "dès", "des", "dalle", "vanaf"];
 const NOON: u32 = 12;
+const MIDNIGHT_HOUR: u32 = 24;
 /// Of a time without a sign, `0930`: its digits, and by how much it grows with the hour.
 const CLOCK_DIGITS: usize = 4;
 const HOUR_STEP: u32 = 100;
 
 struct Time {
+    hour: u32,
     text: String,
     half: Option<Half>,
     /// What is unusual about it.
@@ -47,8 +49,9 @@ pub(super) fn spans(spot: &Spot<'_>) -> Option<Hint> {
         because = because.or(why);
     }
     let at_start = spot.stage.map_or(false, |stage| stage.last == Last::Nothing);
+    let is_cut = spot.text[..begin.at].last().map_or(false, u8::is_ascii_digit); // the number began before this place
     let goes_on = end.letter().map_or(false, |next| "/:.-+".contains(next)); // there is more to it than this
-    if goes_on || (at_start && may_be_dates(begin)) {
+    if is_cut || goes_on || (at_start && may_be_dates(begin)) {
         return None;
     }
     Some(Hint::new(spot.text, begin.until(end), write, because?))
@@ -93,8 +96,8 @@ fn span(scan: Scan<'_>) -> Option<(String, Scan<'_>, Option<String>)> {
     let (start, after) = time(scan)?;
     let (after, dash) = signs::dash_between(after)?;
     let (end, after) = time(after)?;
-    // Where only one side says it, `1-5pm` may begin in the morning or in the afternoon.
-    let sure = start.half.is_some() == end.half.is_some();
+    // Where only one side says it, `1-5pm` may begin in the morning or in the afternoon; and `24-26` and `10-25` are rather days.
+    let sure = start.half.is_some() == end.half.is_some() && start.hour < MIDNIGHT_HOUR && end.hour <= MIDNIGHT_HOUR;
     sure.then(|| (format!("{}-{}", start.text, end.text), after, start.because.or(end.because).or(dash)))
 }
 
@@ -108,7 +111,7 @@ fn time(scan: Scan<'_>) -> Option<(Time, Scan<'_>)> {
         Some(Half::Morning) => hour % NOON,
         Some(Half::Afternoon) => hour % NOON + NOON,
     };
-    Some((Time { text: format!("{hour:02}:{minute:02}"), half, because: unit.or(odd) }, after))
+    Some((Time { hour, text: format!("{hour:02}:{minute:02}"), half, because: unit.or(odd) }, after))
 }
 
 /// Hours and minutes, `9`, `9:30`, `9.30`, `9h30`, `0930`, `9:30:00`, and what is unusual about them.
