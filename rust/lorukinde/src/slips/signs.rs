@@ -107,9 +107,9 @@ pub(super) fn missing_comma(spot: &Spot<'_>) -> Option<Hint> {
     Some(Hint { found: String::new(), ..Hint::joining(spot.text, stage.done..spot.place, ",", "without a blank") })
 }
 
-/// `Mo,10:00-12:00`
+/// `Mo,10:00-12:00`. In `Mo 10:00-12:00,off` it is not sure what is off.
 pub(super) fn blank_for_comma(spot: &Spot<'_>) -> Option<Hint> {
-    let stage = spot.stage.filter(|stage| matches!(stage.last, Last::Comma(_)))?;
+    let stage = spot.stage.filter(|stage| matches!(stage.last, Last::Comma(kind) if kind != Kind::Times))?;
     let comma = stage.done - 1;
     Some(Hint::new(spot.text, comma..stage.done, " ", ""))
 }
