@@ -1,7 +1,7 @@
 //! What was completed last before the place where reading could not go on, and so what may stand there.
 //!
 //! The reader itself tells: up to what was completed last the text is one that it accepts, and the last record says what that was.
-use crate::entry::Kind;
+use crate::entry::{Kind, Meaning};
 use crate::manner::Manner;
 use crate::names::STATES;
 use crate::read_sheet_in;
@@ -33,8 +33,8 @@ pub(crate) struct Stage {
     pub done: usize,
     /// Where the last item begins, or the rule if it has none.
     pub item: usize,
-    /// Whether the rule has items.
-    pub has_items: bool,
+    /// The last item, if the rule has one.
+    pub meaning: Option<Meaning>,
 }
 
 /// How far the rule was read that could not be read on at this place of a text. None if the text before the place is not one that
@@ -43,7 +43,7 @@ pub(crate) fn stage(manner: Manner, text: &[u8], place: usize) -> Option<Stage> 
     let before = &text[..place];
     let done = before.len() - before.iter().rev().take_while(|byte| **byte == b' ').count();
     let read = &before[..done];
-    let begun = |last| Some(Stage { last, done, item: place, has_items: false });
+    let begun = |last| Some(Stage { last, done, item: place, meaning: None });
     match read {
         [] | [.., b';'] | [.., b'|', b'|'] => begun(Last::Nothing),
         [.., b','] if done < place => begun(Last::Nothing), // with a blank after it, a comma parts rules
@@ -71,7 +71,8 @@ fn completed(manner: Manner, text: &[u8]) -> Option<Stage> {
         Kind::NoItem => Last::Always,
         kind => Last::Item(kind),
     };
-    Some(Stage { last, done: text.len(), item: entry.place, has_items: entry.meaning.kind() != Kind::NoItem })
+    let meaning = Some(entry.meaning).filter(|meaning| meaning.kind() != Kind::NoItem);
+    Some(Stage { last, done: text.len(), item: entry.place, meaning })
 }
 
 fn ends_with_state(text: &[u8]) -> bool {
@@ -123,7 +124,7 @@ fn following(stage: &Stage, item: &[u8]) -> String {
 
 /// Whether a rule is a note so far, to which `:` may be added.
 fn is_note_alone(stage: &Stage, rule: &[u8]) -> bool {
-    !stage.has_items && rule.starts_with(b"\"")
+    stage.meaning.is_none() && rule.starts_with(b"\"")
 }
 
 fn after_item(kind: Kind) -> &'static str {

@@ -1,6 +1,6 @@
 //! Dates as people write them, `25.12.2020`, `2020-12-25`, `25. Dezember`, and years after the day.
 use super::{signs, Hint, Spot};
-use crate::entry::Kind;
+use crate::entry::{Dates, Day, Kind, Meaning};
 use crate::expected::Last;
 use crate::foreign;
 use crate::names::MONTHS;
@@ -30,8 +30,26 @@ pub(super) fn year_after_date(spot: &Spot<'_>) -> Option<Hint> {
     let stage = spot.stage.filter(|stage| stage.last == Last::Item(Kind::MonthDays))?;
     let (year, digits, end) = Scan::new(spot.text, spot.place).number(YEAR_DIGITS)?;
     let date = std::str::from_utf8(&spot.text[stage.item..stage.done]).ok()?;
-    let has_year = date.starts_with(|first: char| first.is_ascii_digit());
-    (digits == YEAR_DIGITS && !has_year).then(|| Hint::new(spot.text, stage.item..end.at, format!("{year} {date}"), BECAUSE))
+    let is_sure = digits == YEAR_DIGITS && is_in_a_year(stage.meaning?, date);
+    is_sure.then(|| Hint::new(spot.text, stage.item..end.at, format!("{year} {date}"), BECAUSE))
+}
+
+/// Whether it is sure that one year is meant, and the item has none yet: not in `Dec 24-Jan 6`, nor in `Nov-Feb`.
+fn is_in_a_year(meaning: Meaning, written: &str) -> bool {
+    match meaning {
+        Meaning::Months(months) => months.year.is_none() && months.first.number() <= months.last.number(),
+        Meaning::Dates(dates) => dates.start.year.is_none() && (dates.start == dates.end || is_in_a_month(&dates, written)),
+        _ => false,
+    }
+}
+
+/// Whether a span ends with a bare day of the month in which it starts. An end with a month would need a year of its own.
+fn is_in_a_month(dates: &Dates, written: &str) -> bool {
+    let is_bare = written.rsplit('-').next().map_or(false, |end| end.starts_with(|first: char| first.is_ascii_digit()));
+    match (dates.start.day, dates.end.day) {
+        (Day::Fixed { month: first, .. }, Day::Fixed { month: last, .. }) => is_bare && first == last,
+        _ => false,
+    }
 }
 
 fn single(scan: Scan<'_>) -> Option<(String, Scan<'_>)> {

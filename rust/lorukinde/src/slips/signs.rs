@@ -133,7 +133,7 @@ pub(super) fn missing_semicolon(spot: &Spot<'_>) -> Option<Hint> {
     let stage = spot.stage.filter(|stage| stage.done < spot.place && begins_with_days(spot))?;
     let ends_rule = match stage.last {
         Last::Item(kind) => kind == Kind::Times,
-        Last::State | Last::Note => stage.has_items,
+        Last::State | Last::Note => stage.meaning.is_some(),
         _ => false,
     };
     ends_rule.then(|| Hint::joining(spot.text, stage.done..stage.done, ";", "a new rule begins there"))
