@@ -88,35 +88,37 @@ fn damaged_sheets() {
     assert!(found > 3000 && proposals > 500);
 }
 
+/// What random sheets are made of.
+const PIECES: [&[u8]; 24] = [
+    b"Mo",
+    b"-",
+    b" ",
+    b",",
+    b";",
+    b"10:00",
+    b"9",
+    b"25.12.2020",
+    b"\"",
+    b"\xff",
+    b"\xc3",
+    b"\xe2\x80\x93",
+    b"week",
+    b"[",
+    b"]",
+    b"(",
+    b"/",
+    b"+",
+    b"||",
+    b":",
+    b"Montag",
+    b"off",
+    b"2020",
+    b"\0",
+];
+
 /// Any bytes have a sentence.
 #[test]
 fn any_bytes_can_be_explained() {
-    let pieces: [&[u8]; 24] = [
-        b"Mo",
-        b"-",
-        b" ",
-        b",",
-        b";",
-        b"10:00",
-        b"9",
-        b"25.12.2020",
-        b"\"",
-        b"\xff",
-        b"\xc3",
-        b"\xe2\x80\x93",
-        b"week",
-        b"[",
-        b"]",
-        b"(",
-        b"/",
-        b"+",
-        b"||",
-        b":",
-        b"Montag",
-        b"off",
-        b"2020",
-        b"\0",
-    ];
     let mut state = 7u64;
     let mut random = |below: usize| {
         state = state.wrapping_mul(6364136223846793005).wrapping_add(1442695040888963407);
@@ -124,7 +126,7 @@ fn any_bytes_can_be_explained() {
     };
     let mut proposals = 0;
     for _ in 0..20_000 {
-        let sheet: Vec<u8> = (0..random(9)).flat_map(|_| pieces[random(pieces.len())].to_vec()).collect();
+        let sheet: Vec<u8> = (0..random(9)).flat_map(|_| PIECES[random(PIECES.len())].to_vec()).collect();
         for manner in [Manner::Edition1, Manner::Edition2, Manner::House] {
             let before = refused(manner, &sheet);
             assert!(before.iter().all(|(_, explanation)| !explanation.to_string().is_empty()));
