@@ -1,5 +1,5 @@
 #!/usr/bin/env bash
-# Builds the Rust, unchanged, with the grammar and the few files that are not among the papers: target/oracle/oracle.
+# Builds the Rust, unchanged, with the grammar and the few files that are not among the papers: target/oracle/oracle. Any cargo and rustc from 1.63 on do.
 # A second binary, oracle-digits, has a grammar that takes numbers of any value, so that only the builders judge them.
 #   RUST_SRC   folder of the Rust (default: ../shared/docs/src beside the repository)
 #   BUILD      build folder (default: target/oracle)
@@ -15,14 +15,13 @@ rust=$src/opening-hours-syntax/src
 for file in parser.rs lib.rs error.rs display.rs extended_time.rs rules/day.rs rules/time.rs util/pairs.rs util/text.rs; do
     [ -f "$rust/$file" ] || { echo "missing: opening-hours-syntax/src/$file of the Rust under $src (set RUST_SRC)" >&2; exit 1; }
 done
-command -v cargo >/dev/null || { echo "missing: cargo, of edition 2024" >&2; exit 1; }
-
-if [ -n "${X86:-}" ]; then
-    . "$here/../x86.sh"
-    x86_cargo
-fi
-packages="librust-pest-dev librust-pest-derive-dev librust-chrono-dev"
-dpkg -s $packages >/dev/null 2>&1 || { apt-get update -qq || true; apt-get install -y --no-install-recommends $packages; }
+. "$here/../x86.sh"
+need cargo cargo rustc
+[ -z "${X86:-}" ] || x86_cargo
+minor() { "$@" --version | sed 's/^[^.]*\.\([0-9]*\).*/\1/'; } # of 1.63.0 it is 63
+cargo=$(minor cargo) rustc=$(minor "${RUSTC:-rustc}")
+[ "$cargo" -ge 63 ] && [ "$rustc" -ge 63 ] || { echo "cargo 1.$cargo and rustc 1.$rustc: both have to be 1.63 or later" >&2; exit 1; }
+need_packages librust-pest-dev librust-pest-derive-dev librust-chrono-dev
 registry=$(dpkg -L librust-pest-dev | sed -n 's|/pest-[^/]*/Cargo.toml$||p' | head -n 1)
 
 mkdir -p "$build"
@@ -50,6 +49,22 @@ impl Weekday {
 }
 END
 
+# The Rust is of edition 2024 and uses what rustc has from 1.88 on. An older one builds the same text by edition 2021, with the four features switched on that
+# it has already but does not offer yet (README.md, "An older Rust"), for this crate alone
+edition=2024
+if [ "$rustc" -lt 88 ]; then
+    edition=2021
+    cat >"$build/rustc-older" <<'END'
+#!/bin/sh
+case " $* " in
+*" --crate-name opening_hours_syntax "*) RUSTC_BOOTSTRAP=1 exec "$@" "-Zcrate-attr=feature(const_option, let_chains, let_else, result_option_inspect)" ;;
+*) exec "$@" ;;
+esac
+END
+    chmod +x "$build/rustc-older"
+    export RUSTC_WRAPPER=$build/rustc-older
+fi
+
 for numbers in ${NUMBERS:-ranges digits}; do
     dir=$build/$numbers
     rm -rf "$dir"
@@ -63,11 +78,11 @@ for numbers in ${NUMBERS:-ranges digits}; do
     printf 'pub mod pairs;\npub mod sign;\npub mod text;\n' >"$dir/syntax/src/util/mod.rs"
     : >"$dir/syntax/src/normalize.rs"
     : >"$dir/syntax/README.md"
-    cat >"$dir/syntax/Cargo.toml" <<'END'
+    cat >"$dir/syntax/Cargo.toml" <<END
 [package]
 name = "opening-hours-syntax"
 version = "0.0.0"
-edition = "2024"
+edition = "$edition"
 [features]
 default = ["std"]
 std = []
@@ -81,7 +96,7 @@ END
 [package]
 name = "oracle"
 version = "0.0.0"
-edition = "2024"
+edition = "2021"
 [dependencies]
 opening-hours-syntax = { path = "syntax" }
 chrono = { path = "../chrono", default-features = false }

@@ -119,8 +119,9 @@ fn kind(error: &Error) -> String {
 
 /// the answer for one sheet
 fn answer(sheet: &[u8]) -> String {
-    let Ok(text) = std::str::from_utf8(sheet) else {
-        return "refused\tnot UTF-8".to_string();
+    let text = match std::str::from_utf8(sheet) {
+        Ok(text) => text,
+        Err(_) => return "refused\tnot UTF-8".to_string(),
     };
     let warnings = Cell::new(0);
     let parsed = catch_unwind(AssertUnwindSafe(|| {
@@ -151,22 +152,26 @@ fn sheets(bytes: &[u8]) -> impl Iterator<Item = &[u8]> {
     bytes.split_inclusive(|b| *b == b'\n').map(|line| line.strip_suffix(b"\n").unwrap_or(line))
 }
 
-fn main() {
-    let args: Vec<String> = std::env::args().skip(1).collect();
-    if let [mode, path, rounds] = &args[..]
-        && mode == "bench"
-    {
-        let bytes = read(Some(path));
-        let rounds: usize = rounds.parse().expect("ROUNDS is a number");
-        let texts: Vec<&str> = sheets(&bytes).map(|sheet| std::str::from_utf8(sheet).expect("not UTF-8")).collect();
-        let accepted = |_| texts.iter().filter(|text| parse(text).is_ok()).count();
-        println!("{}", (0..rounds).map(accepted).sum::<usize>());
-        return;
-    }
+fn bench(path: &str, rounds: usize) {
+    let bytes = read(Some(path));
+    let texts: Vec<&str> = sheets(&bytes).map(|sheet| std::str::from_utf8(sheet).expect("not UTF-8")).collect();
+    let accepted = |_| texts.iter().filter(|text| parse(text).is_ok()).count();
+    println!("{}", (0..rounds).map(accepted).sum::<usize>());
+}
+
+fn answers(path: Option<&str>) {
     std::panic::set_hook(Box::new(|_| {})); // a panic is an answer here
-    let bytes = read(args.first().map(String::as_str));
+    let bytes = read(path);
     let mut out = std::io::BufWriter::new(std::io::stdout().lock());
     for sheet in sheets(&bytes) {
         writeln!(out, "{}", answer(sheet)).expect("cannot write");
+    }
+}
+
+fn main() {
+    let args: Vec<String> = std::env::args().skip(1).collect();
+    match &args[..] {
+        [mode, path, rounds] if mode == "bench" => bench(path, rounds.parse().expect("ROUNDS is a number")),
+        _ => answers(args.first().map(String::as_str)),
     }
 }
