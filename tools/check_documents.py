@@ -1,9 +1,9 @@
 #!/usr/bin/env python3
 """Holds the second reader to what the documents say: document 01's sheets, the words and places that the readings (03, and section 8 of 04) name beside an answer,
-and the cases of document 04 for the Asks in force, which stand in tools/readings_04.txt.
+and the cases of document 04 for the Asks in force, which stand in tools/readings.txt.
 
     check_documents.py [DOCUMENT-01 [DOCUMENT-04]]     writes each that is read otherwise, and how many there are; with the documents, also each of their cases that is missing here.
-    check_documents.py take DOCUMENT-04                writes document 04's cases as tools/readings_04.txt has them: section, Ask and call, sheet, answer, parted by byte 9.
+    check_documents.py take DOCUMENT-04                writes document 04's cases as tools/readings.txt has them: section, Ask and call, sheet, answer, parted by byte 9.
 """
 import os
 import re
@@ -125,8 +125,8 @@ def taken(path):
             yield section, " ".join([ask + how + call, *filter(None, numbers)]), sheet, answer.strip()
 
 
-def readings_04():
-    path = os.path.join(os.path.dirname(os.path.abspath(__file__)), "readings_04.txt")
+def readings():
+    path = os.path.join(os.path.dirname(os.path.abspath(__file__)), "readings.txt")
     return [tuple(line.split("\t")) for line in open(path, encoding="utf-8").read().split("\n")[1:-1]]
 
 
@@ -147,7 +147,7 @@ def said(call, s):
 
 
 def wrong():
-    for section, call, text, want in readings_04():
+    for section, call, text, want in readings():
         got = said(call, bytes_of(text.encode()))
         if got != want:
             yield f"{section} [{call}] {text}", want, got
@@ -181,7 +181,7 @@ def missing_01(path):
 
 
 def missing_04(path):
-    return sorted(set(taken(path)) - set(readings_04()))
+    return sorted(set(taken(path)) - set(readings()))
 
 
 def main():
@@ -196,7 +196,7 @@ def main():
     for path, missing in zip(sys.argv[1:], (missing_01, missing_04)):
         for name in missing(path):
             print(f"not looked at: {name}")
-    print(f"{len(readings_04()) + len(DOCUMENT_01) + len(READINGS) + len(PARTS) + len(SHEETS) + 2} looked at, {len(found)} read otherwise")
+    print(f"{len(readings()) + len(DOCUMENT_01) + len(READINGS) + len(PARTS) + len(SHEETS) + 2} looked at, {len(found)} read otherwise")
 
 
 if __name__ == "__main__":

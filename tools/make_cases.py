@@ -1,23 +1,19 @@
 #!/usr/bin/env python3
-"""Writes the cases of crates/cases: the sheets of tools/documents.txt, tools/readings_04.txt and tools/specification.txt, the systematic ones made here, and tools/oracle/sample.txt.
+"""Writes the cases of crates/cases: the sheets of the three lists below, the systematic ones made here, and tools/oracle/sample.txt.
 
     python3 tools/make_cases.py > crates/cases/stdin
     python3 tools/oracle/replay.py crates/cases/stdin > crates/cases/stdout      at most 1 MiB, where rt cuts what a program writes
     python3 tools/make_cases.py count         how many of each origin
 
-and the cases of calls that crates/cases does not make, which the Rust tests replay:
+and the cases of calls that crates/cases does not make, which the Rust tests replay: NAME is feeds, editions, house (house sheets) or damage (sheets damaged
+after a `;`).
 
-    python3 tools/make_cases.py ask2 > tools/cases_ask2.txt                         feeds
-    python3 tools/reference.py cases tools/cases_ask2.txt > tools/cases_ask2.out
-    python3 tools/make_cases.py ask9 > tools/cases_ask9.txt                         editions
-    python3 tools/reference.py cases tools/cases_ask9.txt > tools/cases_ask9.out
-    python3 tools/make_cases.py ask12 > tools/cases_ask12.txt                       house sheets
-    python3 tools/reference.py cases tools/cases_ask12.txt > tools/cases_ask12.out
-    python3 tools/make_cases.py ask14 > tools/cases_ask14.txt                       sheets damaged after a `;`
-    python3 tools/reference.py cases tools/cases_ask14.txt > tools/cases_ask14.out
+    python3 tools/make_cases.py NAME > tools/cases_NAME.txt
+    python3 tools/reference.py cases tools/cases_NAME.txt > tools/cases_NAME.out
 
-documents.txt has the sheets of the rules and of their readings, readings_04.txt those of document 04 (its form: check_documents.py), specification.txt examples of the OpenStreetMap wiki's pages on opening hours, as far as they are remembered, sample.txt sheets whose answers are
-the Rust's own (tools/oracle/README.md).
+sheets_of_the_rules.txt has the sheets of the rules and of document 03, readings.txt those of document 04 (its form: check_documents.py), sheets_of_the_wiki.txt
+examples of the OpenStreetMap wiki's pages on opening hours, as far as they are remembered, sample.txt sheets whose answers are the Rust's own
+(tools/oracle/README.md).
 A case's form is in reference.py, `case`. A line cannot hold byte 10 (three sheets of the readings have it, and are left out); every other byte stands in some sheet.
 """
 import os
@@ -26,6 +22,7 @@ import sys
 
 WORDS = 512
 TOOLS = os.path.dirname(os.path.abspath(__file__))
+RULES, READINGS, WIKI = "sheets_of_the_rules.txt", "readings.txt", "sheets_of_the_wiki.txt"
 
 
 def line(sheet, mode="S", words=WORDS, part=" "):
@@ -41,17 +38,17 @@ def sheets_of(name):
     return [line(s, "A") for s in known(name)]
 
 
-def sheets_04():
-    """the sheets of readings_04.txt; of a feed, which has byte 10, none"""
-    fields = [x.split("\t") for x in known("readings_04.txt")[1:]]
+def sheets_of_readings():
+    """the sheets of readings.txt; of a feed, which has byte 10, none"""
+    fields = [x.split("\t") for x in known(READINGS)[1:]]
     return [sheet for _, call, sheet, _ in fields if "feed" not in call]
 
 
-def readings_04():
-    return [line(s, "A") for s in sheets_04()]
+def readings():
+    return [line(s, "A") for s in sheets_of_readings()]
 
 
-# ---- every piece behind every piece
+# ---- every piece after every piece
 PIECES = ["24/7", '"c"', "2020", "2020-2022/2", "Jan", "Jan 5", "2021 Jan 5-7", "easter", "week 3", "Mo", "Mo[1]", "Tu-Th", "PH", "10:00-12:00", "sunset+", "off", 'open "d"']
 JOINTS = [" ", ",", ": "]
 
@@ -144,8 +141,8 @@ BAD = {3: "x", 4: "1899", 5: "week 1-5/256", 6: "2021-2020", 7: "week 5-1", 8: "
 def refusals():
     out = []
     for bad in BAD.values():
-        for before, behind in [("", ";Mo"), ("  ", ""), ("Mo;", ""), ("Mo; ", ";Tu"), ("Mo, ", ""), ("Mo ||  ", " "), ("Mo,Tu 10:00-12:00;  ", "  ; x"), ('"a;b", ', ";;")]:
-            out.append(line(before + bad + behind, "A"))
+        for before, after in [("", ";Mo"), ("  ", ""), ("Mo;", ""), ("Mo; ", ";Tu"), ("Mo, ", ""), ("Mo ||  ", " "), ("Mo,Tu 10:00-12:00;  ", "  ; x"), ('"a;b", ', ";;")]:
+            out.append(line(before + bad + after, "A"))
     for a in BAD.values():
         for b in BAD.values():
             out.append(line(a + ";" + b))
@@ -270,7 +267,7 @@ def feeds():
     out += [feed(s, a, 512, end) for s in some for a in range(4 * len(s)) for end in ("", "\\x09")]
     out += [feed(["Mo,Tu,We", "off", "Mo,Tu", "10:00-12:00", "24/7", "Mo;Tu"], 24, w) for w in range(0, 256, 8)]
     out += [feed(["Mo", " " * 4097, "Tu"], 12, 512), feed([" " * 4096, "Tu"], 8, 64), feed(['"' + "c" * 4094 + '"', "Tu"], 8, 64)]
-    for texts in (known("documents.txt"), known("specification.txt"), sheets_04()):
+    for texts in (known(RULES), known(WIKI), sheets_of_readings()):
         texts = [x for x in texts if "\\x0a" not in x and "\\x09" not in x]
         out += [feed(texts[i:i + 60], 4 * 60, w) for i in range(0, len(texts), 60) for w in (800, 8192)]
     return out
@@ -292,8 +289,8 @@ def edition_2():
     """each known sheet, and those that the edition adds, in edition 2; editions that there are not; exchanged parts"""
     out = [line(s, "A", part="2") for s in POINTS + WEEKDAYS]
     out += [line(s, "A", part="1") for s in POINTS + WEEKDAYS]
-    out += [line(s, "A", part="2") for s in sheets_04()]
-    out += [line(s, "S", part="2") for s in known("documents.txt") + known("specification.txt")]
+    out += [line(s, "A", part="2") for s in sheets_of_readings()]
+    out += [line(s, "S", part="2") for s in known(RULES) + known(WIKI)]
     more = ["10:00", "dusk", "Mo-Th[1,-1]", "Sa +1 day"]
     out += [line(a + j + b, "S", part="2") for j in [*JOINTS, "; "] for a in PIECES + more for b in PIECES + more if a in more or b in more]
     out += [line(s, "A", part=e) for e in "0123489" for s in ("", "Mo", "10:00", "Mo;x;Tu", '"\\xff"')]
@@ -310,8 +307,8 @@ SPANS = ["10:00-12:00", "12:00-14:00", "11:59-13:00", "9:00-10:00", "9:00-9:30",
 
 def house_sheets():
     """each known sheet, spans after spans, separators, a break of the profile beside another refusal, in the sheet and in its parts; exchanged parts"""
-    out = [line(s, "A", part="h") for s in sheets_04()]
-    out += [line(s, "S", part="h") for s in known("documents.txt") + known("specification.txt")]
+    out = [line(s, "A", part="h") for s in sheets_of_readings()]
+    out += [line(s, "S", part="h") for s in known(RULES) + known(WIKI)]
     out += [line(a + "," + b, "S", part="h") for a in SPANS for b in SPANS] + [line(s, "A", part="h") for s in SPANS]
     out += [line(",".join(x), "S", part="h") for x in [("8:00-9:00", "10:00-11:00", "9:30-9:40"), ("8:00-9:00", "10:00-11:00", "8:30-12:00"), ("8:00-9:00", "9:00-10:00", "10:00-11:00"), ("8:00-20:00", "9:00-10:00", "21:00-22:00")]]
     rules = ["Mo 10:00-12:00", "x", "", "10:00", "1899", "off", "Mo 10:00+", "Tu 10:00-9:00", "We 9:00-10:00,9:30-11:00"]
@@ -348,12 +345,12 @@ def sample():
 
 
 ORIGINS = {
-    "documents": lambda: sheets_of("documents.txt"), "readings": readings_04, "specification": lambda: sheets_of("specification.txt"),
+    "the rules": lambda: sheets_of(RULES), "readings": readings, "the wiki": lambda: sheets_of(WIKI),
     "transitions": transitions, "joints": joints, "order of pieces": triples, "ranges": ranges, "orders": orders, "bare days": bare_days, "marks": marks, "names": names, "refusals": refusals, "slips": slips, "items' places": item_places,
     "tables": tables, "blanks": blanks, "odd bytes": odd_bytes, "letters": letters, "quotes": quotes, "long sheets": long_sheets, "exchanges": exchanges, "notes": notes,
     "edition 2's shapes": new_in_2, "the Rust's answers": sample,
 }
-OF_OTHER_CALLS = {"ask2": feeds, "ask9": edition_2, "ask12": house_sheets, "ask14": damaged}
+OF_OTHER_CALLS = {"feeds": feeds, "editions": edition_2, "house": house_sheets, "damage": damaged}
 
 
 def main():

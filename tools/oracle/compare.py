@@ -57,7 +57,7 @@ def held_by_grammar(kind, g, judged=grammar_only.meaning):
 grammar_only.meaning = held_by_grammar
 grammar_only.need = lambda number, good, need=grammar_only.need: need(4, number != 4 or good)
 
-# what is refused first, if the offset behind easter and a bare day is not looked at?
+# what is refused first, if the offset after easter and a bare day is not looked at?
 no_easter_offset = reference()
 
 
@@ -168,7 +168,7 @@ def expected(s, ours, digits, listed):
         listed.append("ranges in the grammar")
         return 3, 0
     if number == 4 and no_easter_offset.sheet(s)[0] == 9:  # the bare day is refused before its offset is read
-        listed.append("offset behind easter")
+        listed.append("offset after easter")
         return 9, 0
     if number == 4 and digits and grammar_only.sheet(s)[0] == 4:
         number, records, warnings = more_room(builders, s)
@@ -293,7 +293,7 @@ def main():
     p.add_argument("--sheets", help="read these sheets, one a line, and make none")
     p.add_argument("--digits", action="store_true", help="the oracle whose grammar takes numbers of any value")
     p.add_argument("--oracle")
-    p.add_argument("--ours", default=shlex.join([sys.executable, os.path.join(HERE, "ours.py")]))
+    p.add_argument("--ours", default=shlex.join([sys.executable, os.path.join(HERE, "by_reference.py")]))
     p.add_argument("--whole", action="store_true", help="hold our whole answers to tools/reference.py too")
     args = p.parse_args()
     oracle = args.oracle or os.path.join(ROOT, "target", "oracle", "oracle-digits" if args.digits else "oracle")

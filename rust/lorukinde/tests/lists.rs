@@ -57,22 +57,22 @@ fn the_repositorys_cases() {
 
 #[test]
 fn the_cases_of_editions() {
-    assert!(replay("tools/cases_ask9.txt", "tools/cases_ask9.out") > 1000);
+    assert!(replay("tools/cases_editions.txt", "tools/cases_editions.out") > 1000);
 }
 
 #[test]
 fn the_cases_of_house_sheets() {
-    assert!(replay("tools/cases_ask12.txt", "tools/cases_ask12.out") > 1000);
+    assert!(replay("tools/cases_house.txt", "tools/cases_house.out") > 1000);
 }
 
 #[test]
 fn the_cases_of_damage() {
-    assert!(replay("tools/cases_ask14.txt", "tools/cases_ask14.out") > 1000);
+    assert!(replay("tools/cases_damage.txt", "tools/cases_damage.out") > 1000);
 }
 
 #[test]
 fn the_cases_of_feeds() {
-    assert!(replay("tools/cases_ask2.txt", "tools/cases_ask2.out") > 500);
+    assert!(replay("tools/cases_feeds.txt", "tools/cases_feeds.out") > 500);
 }
 
 fn feed_case_lines(case: &[u8], room: usize) -> Vec<Vec<u8>> {

@@ -10,7 +10,7 @@ fn listed() -> Vec<(Manner, Vec<u8>)> {
         cases.filter(|case| b"SPAL".contains(&case[4])).map(|case| case[6..].to_vec()).collect()
     };
     let in_1 = cases("crates/cases/stdin").into_iter().chain(lines_of("tools/oracle/sample.txt").unwrap());
-    let in_2 = cases("tools/cases_ask9.txt").into_iter();
+    let in_2 = cases("tools/cases_editions.txt").into_iter();
     in_1.map(|sheet| (Manner::Edition1, sheet)).chain(in_2.map(|sheet| (Manner::Edition2, sheet))).collect()
 }
 

@@ -3,10 +3,10 @@ mod common;
 use common::{bytes_of, feed_lines, lines_of, one_part, sheet_lines, By};
 use lorukinde::Manner;
 
-/// tools/readings_04.txt: section, Ask and call, sheet, answer, parted by byte 9. The first line says how it was made.
+/// tools/readings.txt: section, Ask and call, sheet, answer, parted by byte 9. The first line says how it was made.
 #[test]
 fn the_documents_cases() {
-    let cases = lines_of("tools/readings_04.txt").unwrap();
+    let cases = lines_of("tools/readings.txt").unwrap();
     for line in &cases[1..] {
         let line = String::from_utf8_lossy(line);
         let fields: Vec<&str> = line.split('\t').collect();

@@ -1,5 +1,5 @@
 #!/usr/bin/env python3
-"""ours.py FILE: the answer of tools/reference.py for each line of a file, as the program writes it: four numbers, then each record."""
+"""by_reference.py FILE: the answer of tools/reference.py for each line of a file, as the program writes it: four numbers, then each record."""
 import os
 import sys
 
