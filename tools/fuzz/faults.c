@@ -30,12 +30,12 @@ uint32_t __wrap_lorukinde_read_sheet(const uint8_t *sheet, size_t n, uint8_t *ta
     uint32_t number = __real_lorukinde_read_sheet(sheet, n, table, bytes, place, records, warnings);
     size_t used = 64 * (size_t)*records;
     switch (fault()) {
-    case 1: seen = sheet[n]; break;                                       /* a byte behind the sheet is read */
+    case 1: seen = sheet[n]; break;                                       /* a byte after the sheet is read */
     case 2: seen = sheet[-1]; break;                                      /* one before it */
-    case 3: table[bytes] ^= 1; break;                                     /* a byte behind the table is written */
+    case 3: table[bytes] ^= 1; break;                                     /* a byte after the table is written */
     case 4: table[-1] ^= 1; break;                                        /* one before it */
     case 5: if (n) *(volatile uint8_t *)(sheet + n / 2) = sheet[n / 2]; break; /* the sheet is written to */
-    case 6: if (used < bytes) table[used] ^= 1; break;                    /* a byte behind the records is changed */
+    case 6: if (used < bytes) table[used] ^= 1; break;                    /* a byte after the records is changed */
     case 7: if (number == 3 && bytes) table[bytes - 1] ^= 128; break;     /* a refusal changes the table */
     case 8: if (number == 10 && bytes) table[0] ^= 1; break;              /* so does one for want of room */
     case 9: if (used) memcpy(table + 60, before, 4); break;               /* a record's last word is not written */

@@ -1,8 +1,8 @@
 /* fuzz SEED CALLS end|begin: drives the C entries with random sheets, tables and places for at least CALLS calls, and stops at the first wrong answer.
  *
- * Every lent buffer (sheet, table, answers, each number) ends exactly at an unreadable page (end) or begins exactly behind one (begin), so a step outside it on
+ * Every lent buffer (sheet, table, answers, each number) ends exactly at an unreadable page (end) or begins exactly after one (begin), so a step outside it on
  * that side is a fault; on the other side the bytes next to it are compared. The sheet, or feed, is lent through a read-only view. Before each call the table has
- * fresh random marks; after it every byte behind the records is as before, and on a refusal every byte. */
+ * fresh random marks; after it every byte after the records is as before, and on a refusal every byte. */
 #define _GNU_SOURCE
 #include <signal.h>
 #include <stdbool.h>
@@ -167,10 +167,10 @@ static void table_kept(size_t bytes, const struct answer *a)
     size_t o = offset(&table_room, bytes), used = (size_t)a->records * 64;
     need(used <= bytes, "more records than the table holds");
     old_from = o, old_bytes = used;
-    need(!memcmp(table_room.own + o + used, marks + o + used, bytes - used), a->number ? "a refusal changed the table" : "a byte behind the records was changed");
-    size_t front = o < PAGE ? o : PAGE, behind = table_room.size - o - bytes < PAGE ? table_room.size - o - bytes : PAGE;
+    need(!memcmp(table_room.own + o + used, marks + o + used, bytes - used), a->number ? "a refusal changed the table" : "a byte after the records was changed");
+    size_t front = o < PAGE ? o : PAGE, back = table_room.size - o - bytes < PAGE ? table_room.size - o - bytes : PAGE;
     need(!memcmp(table_room.own + o - front, marks + o - front, front), "a byte before the table was changed");
-    need(!memcmp(table_room.own + o + bytes, marks + o + bytes, behind), "a byte behind the table was changed");
+    need(!memcmp(table_room.own + o + bytes, marks + o + bytes, back), "a byte after the table was changed");
 }
 
 static bool within(int32_t x, int32_t lo, int32_t hi)
