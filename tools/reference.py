@@ -9,7 +9,9 @@
                                 refusal from 3 to 9 the place is not asked, and 11 and 12 count as 3, since Ask 1 has changed these; a sheet with an
                                 ill-formed comment is left out.
 
-Shapes are regular expressions over bytes: every shape is tried and the longest that stands complete is taken. Needs Python 3.11.
+Shapes are regular expressions over bytes: every shape is tried and the longest that stands complete is taken. What stands is taken, and never given back
+(`maybe`, `many`). Needs Python 3.11; of its possessive forms only those of single bytes are used (`\\d{1,5}+`), since before 3.11.5, so in Debian 12, those
+of groups go wrong.
 """
 import calendar
 import re
@@ -32,6 +34,20 @@ def num(lo, hi):
     return rb"(?:(?!\d+:\d)\d{%d,%d}+)" % (lo, hi)
 
 
+def without_names(shape):
+    return re.sub(rb"\?P<\w+>", b"?:", shape)
+
+
+def maybe(shape):
+    """the shape where it stands, else nothing"""
+    return rb"(?:" + shape + rb"|(?!" + without_names(shape) + rb"))"
+
+
+def many(shape):
+    """the shape as often as it stands"""
+    return rb"(?:" + shape + rb")*(?!" + without_names(shape) + rb")"
+
+
 year, count, nth1, short, mm = num(4, 4), num(1, 5), num(1, 1), num(1, 2), num(2, 2)
 hmm = rb"(?:\d{1,2}+:\d\d)"
 days_off = rb"(?: +(?P<%s_s>[+-])(?P<%s_n>" + count + rb") +days?)"
@@ -42,34 +58,35 @@ def day_offset(tag):
 
 
 def offset(tag):
-    return (rb"(?:(?P<%s_ws>[+-])(?P<%s_w>" + wd + rb"))?+") % (tag, tag) + rb"(?:" + day_offset(tag) + rb")?+"
+    return maybe((rb"(?P<%s_ws>[+-])(?P<%s_w>" + wd + rb")") % (tag, tag)) + maybe(day_offset(tag))
 
 
 def date(tag):
-    return (rb"(?:(?P<%s_y>" + year + rb") +)?+(?:(?P<%s_e>" + easter + rb")|(?P<%s_m>" + mon + rb") +(?:(?P<%s_d>" + short + rb")|(?P<%s_wd>" + wd
-            + rb")\[(?P<%s_k>-?+" + nth1 + rb")\]))") % ((tag,) * 6)
+    return maybe((rb"(?P<%s_y>" + year + rb") +") % tag) + (rb"(?:(?P<%s_e>" + easter + rb")|(?P<%s_m>" + mon + rb") +(?:(?P<%s_d>" + short + rb")|(?P<%s_wd>" + wd
+            + rb")\[(?P<%s_k>-?" + nth1 + rb")\]))") % ((tag,) * 5)
 
 
 def time(tag):
     return (rb"(?:(?P<%s_c>" + hmm + rb")|(?P<%s_e>" + event + rb")|\((?P<%s_v>" + event + rb")(?P<%s_s>[+-])(?P<%s_o>" + hmm + rb")\))") % ((tag,) * 5)
 
 
-entry = rb"(?:-" + nth1 + rb"|" + nth1 + rb"(?:-" + nth1 + rb")?+)"
+entry = rb"(?:-" + nth1 + rb"|" + nth1 + maybe(rb"-" + nth1) + rb")"
+marks = rb"\[(?P<es>" + entry + many(rb"," + entry) + rb")\]"
 SHAPES = {
     2: [rb"(?P<a>" + year + rb")", rb"(?P<a>" + year + rb")(?P<plus>\+)", rb"(?P<a>" + year + rb")-(?P<b>" + year + rb")",
         rb"(?P<a>" + year + rb")-(?P<b>" + year + rb")/(?P<n>" + count + rb")"],
     5: [rb"(?P<a>" + short + rb")", rb"(?P<a>" + short + rb")-(?P<b>" + short + rb")", rb"(?P<a>" + short + rb")-(?P<b>" + short + rb")/(?P<n>" + count + rb")"],
-    3: [rb"(?:(?P<y>" + year + rb") +)?+(?P<a>" + mon + rb")(?:-(?P<b>" + mon + rb"))?+",
+    3: [maybe(rb"(?P<y>" + year + rb") +") + rb"(?P<a>" + mon + rb")" + maybe(rb"-(?P<b>" + mon + rb")"),
         date(b"s") + offset(b"so"), date(b"s") + offset(b"so") + rb"(?P<plus>\+)",
         date(b"s") + offset(b"so") + rb"-" + date(b"t") + offset(b"to"), date(b"s") + offset(b"so") + rb"-(?P<bare>" + short + rb")" + offset(b"to")],
     6: [rb"(?P<a>" + wd + rb")", rb"(?P<a>" + wd + rb")-(?P<b>" + wd + rb")",
-        rb"(?P<a>" + wd + rb")\[(?P<es>" + entry + rb"(?:," + entry + rb")*+)\]" + rb"(?:" + day_offset(b"o") + rb")?+"],
-    7: [rb"(?P<h>PH|SH)(?:" + day_offset(b"o") + rb")?+"],
+        rb"(?P<a>" + wd + rb")" + marks + maybe(day_offset(b"o"))],
+    7: [rb"(?P<h>PH|SH)" + maybe(day_offset(b"o"))],
     8: [time(b"s"), time(b"s") + rb"(?P<open>\+)", time(b"s") + rb"-" + time(b"t"), time(b"s") + rb"-" + time(b"t") + rb"(?P<plus>\+)",
         time(b"s") + rb"-" + time(b"t") + rb"/(?P<rm>" + mm + rb")", time(b"s") + rb"-" + time(b"t") + rb"/(?P<rh>" + hmm + rb")"],
 }
 # edition 2: marks after a range too, a day offset after any weekday
-SHAPES_2 = SHAPES | {6: [rb"(?P<a>" + wd + rb")(?:-(?P<b>" + wd + rb"))?+(?:\[(?P<es>" + entry + rb"(?:," + entry + rb")*+)\])?+(?:" + day_offset(b"o") + rb")?+"]}
+SHAPES_2 = SHAPES | {6: [rb"(?P<a>" + wd + rb")" + maybe(rb"-(?P<b>" + wd + rb")") + maybe(marks) + maybe(day_offset(b"o"))]}
 EDITIONS = {n: {k: [re.compile(p) for p in ps] for k, ps in shapes.items()} for n, shapes in [(1, SHAPES), (2, SHAPES_2)]}
 
 
@@ -465,7 +482,7 @@ def read_sheet(s, words, how=1):
 
 
 # ---- parts
-PART = re.compile(rb'(?:[^";]|"[^"]*+"?)*+')  # up to a `;` outside quotes; a quote that is never closed goes to the end
+PART = re.compile(rb'(?:[^";]|"[^"]*"?)*')  # up to a `;` outside quotes; a quote that is never closed goes to the end
 
 
 def parts(s):
