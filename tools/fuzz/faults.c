@@ -1,4 +1,4 @@
-/* Faults planted round the entries, to show that the fuzzer finds them: FAULT=1 to 59 in the environment, 0 for none. Linked with
+/* Faults planted round the entries, to show that the fuzzer finds them: FAULT=1 to 103 in the environment, 0 for none. Linked with
  * -Wl,--wrap for each call (run.sh), so the library itself stays as it is. */
 #include <stdlib.h>
 #include <string.h>
@@ -21,6 +21,21 @@ static int fault(void)
 }
 
 static volatile uint8_t seen;
+
+/* seven faults, from `first` on: steps over the ends of a text, a table and a number, and a write to the text */
+static void step_outside(int first, const uint8_t *text, size_t n, uint8_t *table, size_t bytes, void *stored, size_t stored_bytes)
+{
+    uint8_t *number = stored;
+    switch (fault() - first) {
+    case 0: seen = text[n]; break;
+    case 1: seen = text[-1]; break;
+    case 2: if (n) *(volatile uint8_t *)(text + n / 2) = text[n / 2]; break;
+    case 3: table[bytes] ^= 1; break;
+    case 4: table[-1] ^= 1; break;
+    case 5: number[stored_bytes] ^= 1; break;
+    case 6: number[-1] ^= 1; break;
+    }
+}
 
 uint32_t __wrap_lorukinde_read_sheet(const uint8_t *sheet, size_t n, uint8_t *table, size_t bytes, uint32_t *place, uint32_t *records, uint32_t *warnings)
 {
@@ -72,6 +87,7 @@ uint32_t __wrap_lorukinde_read_part(const uint8_t *sheet, size_t n, size_t begin
     case 36: if (used && table[60] >= begin) table[60] -= (uint8_t)begin; break; /* a head's place is the part's, not the sheet's */
     case 37: if (used > 64 && table[124] < 255) table[124]++; break;      /* an item's place is its second byte */
     }
+    step_outside(60, sheet, n, table, bytes, next, sizeof *next);
     return number;
 }
 
@@ -89,6 +105,7 @@ uint32_t __wrap_lorukinde_read_sheet_in(uint32_t edition, const uint8_t *sheet, 
     case 52: if (*records > 1 && table[64] == 6 && table[68] != table[72]) memset(table + 76, 0, 4); break; /* a day offset after a range is lost */
     case 53: if (number == 19 && n > LORUKINDE_SHEET_BYTES) number = 1; break; /* 1 before 19 */
     }
+    step_outside(67, sheet, n, table, bytes, records, sizeof *records);
     return number;
 }
 
@@ -98,6 +115,7 @@ uint32_t __wrap_lorukinde_read_part_in(uint32_t edition, const uint8_t *sheet, s
     switch (fault()) {
     case 54: if (number == 19) *last = 0; break;
     }
+    step_outside(74, sheet, n, table, bytes, warnings, sizeof *warnings);
     return number;
 }
 
@@ -111,6 +129,7 @@ uint32_t __wrap_lorukinde_read_house_sheet(const uint8_t *sheet, size_t n, uint8
     case 57: if (number == 23) number = 22; break;
     case 58: *place -= number == 22 && *place > 1 && sheet[*place - 1] != ','; break; /* the byte before the rule or the item */
     }
+    step_outside(81, sheet, n, table, bytes, warnings, sizeof *warnings);
     return number;
 }
 
@@ -120,6 +139,7 @@ uint32_t __wrap_lorukinde_read_house_part(const uint8_t *sheet, size_t n, size_t
     switch (fault()) {
     case 59: if (number == 22) *place -= (uint32_t)begin; break;          /* places are the part's, not the sheet's */
     }
+    step_outside(88, sheet, n, table, bytes, place, sizeof *place);
     return number;
 }
 
@@ -130,6 +150,7 @@ uint32_t __wrap_lorukinde_read_feed(const uint8_t *feed, size_t n, uint8_t *answ
     if (fault() == 39)
         bytes -= bytes < 64 ? 0 : bytes / 64 % 2 * 64;                    /* not all of the room is used */
     uint32_t number = __real_lorukinde_read_feed(feed, n, answers, answer_bytes, table, bytes, lines, records);
+    step_outside(95, feed, n, table, bytes, records, sizeof *records);
     uint8_t *second = answers + 16;
     switch (fault()) {
     case 40: *records += number == 0 && *lines > 0; break;
@@ -139,6 +160,8 @@ uint32_t __wrap_lorukinde_read_feed(const uint8_t *feed, size_t n, uint8_t *answ
     case 44: if (*lines > 1 && second[0] == 3) second[4]++; break;        /* a later line's place is moved */
     case 45: if (*lines > 2 && second[0] == 10) *lines = 2; break;        /* a line that does not fit ends the feed */
     case 46: lines[1] = 0; break;
+    case 102: answers[answer_bytes] ^= 1; break;                          /* a byte after the answers' table is written */
+    case 103: answers[-1] ^= 1; break;                                    /* one before it */
     }
     return number;
 }

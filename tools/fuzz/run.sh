@@ -5,7 +5,7 @@
 set -euo pipefail
 here=$(cd "$(dirname "$0")" && pwd)
 . "$here/../archive.sh"
-seed=${1:-1} calls=${2:-5000000} dir=$root/target/fuzz faults=59
+seed=${1:-1} calls=${2:-5000000} dir=$root/target/fuzz faults=103
 build "$dir/fuzz" "$here/fuzz.c"
 "${emulator[@]}" "$dir/fuzz" "$seed" "$calls" end
 "${emulator[@]}" "$dir/fuzz" "$((seed + 1))" "$calls" begin
