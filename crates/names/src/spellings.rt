@@ -1,5 +1,6 @@
 // How a name is written, and whether that calls for a warning.
 ghost use mathlib.Core.Path.{_≡_};
+ghost use Rattle.names.specs.Tests.{if_then_else_};
 ghost use Rattle.names.specs.Spellings as spellings;
 use crate::HOLIDAY;
 use crate::MONTH;
@@ -19,44 +20,14 @@ fn written(b: u8) -> Spelling
     Spelling::Other
 }
 
-// How letters are written.
-pub fn spelt(letters: &[u8]) -> Spelling
-    ensures { λ r. ⌜ r ≡ spellings.spelt (now (letters .entry)) ⌝ }
+// How a name with this first letter is written, whether its others are small or not.
+pub fn spelt(first: u8, small: bool) -> Spelling
+    ensures { λ r. ⌜ r ≡ (if small then spellings.written first else Spelling.Other) ⌝ }
 {
-    if letters.len() == 0 {
-        return Spelling::Other;
-    }
-    let mut i = 1;
-    while i < letters.len() {
-        let b = letters[i];
-        if byte_within(b'a', b'z', b) {
-            i += 1;
-        } else {
-            return Spelling::Other;
-        }
-    }
-    written(letters[0])
-}
-
-// All small.
-fn is_small(w: Spelling) -> bool
-    ensures { λ r. ⌜ r ≡ spellings.isSmall w ⌝ }
-{
-    match w {
-        Spelling::Small => true,
-        Spelling::Capital => false,
-        Spelling::Other => false,
-    }
-}
-
-// One capital, then small.
-fn is_capital(w: Spelling) -> bool
-    ensures { λ r. ⌜ r ≡ spellings.isCapital w ⌝ }
-{
-    match w {
-        Spelling::Small => false,
-        Spelling::Capital => true,
-        Spelling::Other => false,
+    if small {
+        written(first)
+    } else {
+        Spelling::Other
     }
 }
 
@@ -67,9 +38,9 @@ pub fn warns(kind: u8, w: Spelling) -> bool
     if HOLIDAY <= kind {
         return false;
     }
-    if kind <= MONTH {
-        !is_capital(w)
-    } else {
-        !is_small(w)
+    match w {
+        Spelling::Small => kind <= MONTH,
+        Spelling::Capital => MONTH < kind,
+        Spelling::Other => true,
     }
 }

@@ -42,10 +42,10 @@ seenRulesInto (counted.Refused k p) t = refused k p
 abbrev pub ComesTo : ℕ → Break → ℕ → Counted → Type 0
 ComesTo n first i r = (s : List ℕ) (t : Tables) → unbroken (n, t) first s i ≡ seenRulesInto r t
 
--- a capital, a small letter and no letter behind them
+-- a capital, a small letter and no letter after them
 unfoldable pub shortCapital : List ℕ → Bool
 shortCapital s = within 65 90 (getD s 0 0) && within 97 122 (getD s 1 0) && not (isLetter (getD s 2 0))
 
--- place j is not before place i, and behind a letter the text has as many warnings from i on as behind none from j on
-abbrev pub SameBehind : List ℕ → ℕ → ℕ → Type 0
-SameBehind s i j = (i ≤ j) × ((inside : Bool) → warningsIn inside true (drop i s) ≡ warningsIn inside false (drop j s))
+-- place j is not before place i, and a text that is inside quotes or not, after a letter or not, has as many warnings from i on as one outside and after none from j on
+abbrev pub Passes : Bool → Bool → List ℕ → ℕ → ℕ → Type 0
+Passes inside letter s i j = (i ≤ j) × (warningsIn inside letter (drop i s) ≡ warningsIn false false (drop j s))

@@ -1,12 +1,14 @@
 // Warnings: a pass of its own over a text that is accepted.
-ghost use Prim.Native.Nat.{_<_};
-ghost use mathlib.Core.Bool.{_&&_, not};
+ghost use Prim.Native.Nat.{_+_, _<_};
+ghost use mathlib.Core.Bool.{true, false};
 ghost use mathlib.Core.Path.{_≡_};
 ghost use lib.ListN.{length, drop};
+ghost use Rattle.names.specs.Tests.{within};
+ghost use Rattle.names.specs.Read.{got};
+ghost use Rattle.names.specs.Chain.{skip};
 ghost use Rattle.names.specs.Names.{word};
 ghost use Rattle.sheet.specs.Warnings as warnings;
-ghost use Rattle.sheet.specs.Seen.{shortCapital, SameBehind};
-use crate::parts::flips;
+ghost use Rattle.sheet.specs.Seen.{shortCapital, Passes};
 use names::Cursor;
 use names::Word;
 use names::spelt;
@@ -24,7 +26,7 @@ fn is_letter(b: u8) -> bool
     }
 }
 
-// A capital, a small letter and no letter behind them: no name that is written so calls for a warning.
+// A capital, a small letter and no letter after them: no name that is written so calls for a warning.
 fn short_capital(s: &[u8], at: usize) -> bool
     requires { ⌜ at < length (now s) ⌝ }
     ensures { λ r. ⌜ r ≡ shortCapital (drop at (now (s .entry))) ⌝ }
@@ -37,38 +39,22 @@ fn short_capital(s: &[u8], at: usize) -> bool
     false
 }
 
-// Whether the name at a place calls for a warning.
-fn calls(s: &[u8], at: usize) -> bool
+// Whether the name at a place calls for a warning, where the letters after its first are small up to another.
+fn calls(s: &[u8], at: usize, small: usize) -> bool
     requires { ⌜ at < length (now s) ⌝ }
+    requires { ⌜ skip (within 97 122) (now s) (at + 1) ≡ got tt small ⌝ }
     ensures { λ r. ⌜ r ≡ warnings.calls (drop at (now (s .entry))) (word (drop at (now (s .entry))) 0) ⌝ }
 {
     let found = Cursor { at }.word(s);
     match found {
-        Word::Got(kind, _, c) => {
-            let end = c.at;
-            warns(kind, spelt(&s[at..end]))
-        }
+        Word::Got(kind, _, c) => warns(kind, spelt(s[at], c.at <= small)),
         Word::Missing => false,
     }
 }
 
-// Whether the name at a place calls for a warning and stands outside quotes.
-fn warned(s: &[u8], at: usize, inside: bool) -> bool
-    requires { ⌜ at < length (now s) ⌝ }
-    ensures { λ r. ⌜ r ≡ (not inside && warnings.calls (drop at (now (s .entry))) (word (drop at (now (s .entry))) 0)) ⌝ }
-{
-    if inside {
-        return false;
-    }
-    if short_capital(s, at) {
-        return false;
-    }
-    calls(s, at)
-}
-
-// The place behind letters, as many as there are.
-fn behind_letters(s: &[u8], at: usize) -> usize
-    ensures { λ r. ⌜ SameBehind (now (s .entry)) at r ⌝ }
+// The place after letters, as many as there are.
+fn after_letters(s: &[u8], at: usize) -> usize
+    ensures { λ r. ⌜ Passes false true (now (s .entry)) at r ⌝ }
 {
     let mut i = at;
     while i < s.len() {
@@ -81,24 +67,62 @@ fn behind_letters(s: &[u8], at: usize) -> usize
     i
 }
 
+// The place after the quote that closes, or the text's end.
+fn after_quote(s: &[u8], at: usize) -> usize
+    ensures { λ r. ⌜ Passes true false (now (s .entry)) at r ⌝ }
+{
+    let mut i = at;
+    while i < s.len() {
+        if s[i] == b'"' {
+            return i + 1;
+        }
+        i += 1;
+    }
+    i
+}
+
+// The place after digits, blanks and signs below the letters, up to a quote.
+fn after_signs(s: &[u8], at: usize) -> usize
+    ensures { λ r. ⌜ Passes false false (now (s .entry)) at r ⌝ }
+{
+    let mut i = at;
+    while i < s.len() {
+        let b = s[i];
+        if b'A' <= b {
+            return i;
+        }
+        if b == b'"' {
+            return i;
+        }
+        i += 1;
+    }
+    i
+}
+
 // The warnings of the text from place p on. Only the first of letters can begin a name.
 pub fn warnings_of(s: &[u8], p: usize) -> usize
     ensures { λ r. ⌜ r ≡ warnings.warningsOf (drop p (now (s .entry))) ⌝ }
 {
     let mut n: usize = 0;
-    let mut inside = false;
     let mut i = p;
-    while i < s.len() {
+    loop {
+        i = after_signs(s, i);
+        if s.len() <= i {
+            return n;
+        }
         let b = s[i];
-        if is_letter(b) {
-            if warned(s, i, inside) {
+        if b == b'"' {
+            i = after_quote(s, i + 1);
+        } else if short_capital(s, i) {
+            i += 2;
+        } else if is_letter(b) {
+            let small = Cursor { at: i + 1 }.skip(s, b'a', b'z');
+            if calls(s, i, small.at) {
                 n += 1;
             }
-            i = behind_letters(s, i + 1);
+            i = after_letters(s, small.at);
         } else {
-            inside = flips(b, inside);
             i += 1;
         }
     }
-    n
 }

@@ -8,6 +8,7 @@ use lib.ListN.{length}
 use Rattle.names.specs.Seen.{seenWord}
 use Rattle.names.proofs.Local.{past-one}
 use Rattle.names.proofs.NameCut.{word-local}
+use Rattle.names.proofs.Letters.{spelt-to}
 use Rattle.sheet.proofs.Warned.{calls-got, calls-none}
 use Rattle.sheet.proofs.warnings.calls.Statement.{statement}
 use Rattle.sheet.proofs.warnings.calls.Tie as tie
@@ -22,13 +23,11 @@ calls-spec =
     (tie.spec
     (λ c κs. search needs)  -- word-requires
     (λ c. search needs)  -- enum-known-found
-    (λ c. omega (arith, stands c .0))  -- sub-spelt
-    (λ c. omega (arith, stands c .0, stands c .1))  -- part-spelt-start
-    (λ c. omega (arith, stands c .0, stands c .1))  -- part-spelt-end
+    (λ c. search needs)  -- shared-slice-read-spelt
     (λ c κs. search needs)  -- spelt-requires
     (λ c κs. search needs)  -- warns-requires
     (λ c. search needs)  -- enum-told
-    (λ c. let f = c .before .before .before .before in let w = f .before .before in let a = w .before .before .args in let h : a .at ≤ length (now (a .s)) = omega (arith, w .before .before .pre) in
-    rw (c .warns .ensures, c .before .spelt .ensures) (calls-got (now (a .s)) (a .at) h (w .word .ensures ∙ ap seenWord (f .found .given .1))))  -- returns
-    (λ c. let l = c .before .before in let a = l .before .before .args in let h : a .at ≤ length (now (a .s)) = omega (arith, l .before .before .pre) in
+    (λ c. let k = c .before .before .before .before in let f = k .before in let w = f .before .before in let a = w .before .before .args in let pre = w .before .before .pre in let h : a .at ≤ length (now (a .s)) = omega (arith, pre .0) in
+    rw (c .warns .ensures, c .before .spelt .ensures, ← spelt-to (now (a .s)) (a .at) (a .small) (f .found .given .0 .1 .1 .0 .at) (stands k .0) (stands k .1) (pre .1)) (calls-got (now (a .s)) (a .at) h (w .word .ensures ∙ ap seenWord (f .found .given .1))))  -- returns
+    (λ c. let l = c .before .before in let a = l .before .before .args in let h : a .at ≤ length (now (a .s)) = omega (arith, l .before .before .pre .0) in
     calls-none (now (a .s)) (a .at) h (l .word .ensures ∙ ap seenWord (c .enum-told .given .1))))  -- returns-2
