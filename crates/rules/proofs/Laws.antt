@@ -23,6 +23,7 @@ use Rattle.items.specs.declared.Kind.{Kind}
 use Rattle.items.specs.declared.Kind.the-variants.{Years, MonthDays, Weeks, WeekNumbers, Weekdays, LastWeekdays, Holidays, LastHolidays, Times}
 use Rattle.items.proofs.Kind.{the-type as kind-type}
 use Rattle.rules.specs.Comments.{noComment}
+use Rattle.rules.specs.Comments as comments
 use Rattle.rules.specs.Modifiers.{tailOf}
 use Rattle.rules.specs.Rows.{isWide}
 use Rattle.rules.specs.Pieces.{plainEnd}
@@ -127,6 +128,11 @@ pub comment-stays : (r : CommentRead) → OneOf decided (tagOf comment-type r) �
 comment-stays (comment.Got x c) k s i n = refl
 comment-stays comment.Missing k s i n = absurd (miss decided 1 tt k)
 comment-stays (comment.Refused e p) k s i n = refl
+
+-- where no quote stands, no comment does
+pub no-comment : (s : List ℕ) (i : ℕ) → byte 34 s i ≡ none → comments.comment s i ≡ none
+unfolding comments.comment
+no-comment s i e = rw (e)
 
 -- the stages but the first
 abbrev begun : List ℕ

@@ -56,6 +56,11 @@ pub fn begin(s: &[u8], c: Cursor) -> OpeningRead
     if let Step::Got(d) = whole {
         return plain(Stage::Always, d);
     }
+    // Most rules begin with no quote: they are told before a comment is read.
+    let quote = c.sign(s, b'"');
+    let Step::Got(_) = quote else {
+        return plain(Stage::Beginning, c);
+    };
     let wide = comment(s, c);
     match wide {
         CommentRead::Got(some, e) => {
