@@ -44,6 +44,10 @@ movedEvent = do
   sign ")"
   pure t
 
+-- an event, or `(event±H:MM)`
+abbrev pub eventTime : Reader RawTime
+eventTime = (do e ← name event; pure (eventAlone e)) or movedEvent
+
 -- a time
 unfoldable pub rawTime : Reader RawTime
-rawTime = (do c ← clock; pure (Fixed c)) or (do e ← name event; pure (eventAlone e)) or movedEvent
+rawTime = (do c ← clock; pure (Fixed c)) or eventTime

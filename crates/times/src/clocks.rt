@@ -84,14 +84,10 @@ fn moved_event(s: &[u8], c: Cursor) -> TimeRead
     TimeRead::Got(t, g)
 }
 
-// A time.
-pub fn raw_time(s: &[u8], c: Cursor) -> TimeRead
-    ensures { λ r. ⌜ times.rawTime (now (s .entry)) (c .at) ≡ seenTime r ⌝ }
+// An event, or `(event±H:MM)`.
+pub fn event_time(s: &[u8], c: Cursor) -> TimeRead
+    ensures { λ r. ⌜ times.eventTime (now (s .entry)) (c .at) ≡ seenTime r ⌝ }
 {
-    let fixed = clock(s, c);
-    if let ClockRead::Got(t, d) = fixed {
-        return TimeRead::Got(RawTime::Fixed(t), d);
-    }
     let name = c.name(s, EVENT);
     if let Num::Got(event, e) = name {
         return TimeRead::Got(
@@ -100,4 +96,15 @@ pub fn raw_time(s: &[u8], c: Cursor) -> TimeRead
         );
     }
     moved_event(s, c)
+}
+
+// A time.
+pub fn raw_time(s: &[u8], c: Cursor) -> TimeRead
+    ensures { λ r. ⌜ times.rawTime (now (s .entry)) (c .at) ≡ seenTime r ⌝ }
+{
+    let fixed = clock(s, c);
+    match fixed {
+        ClockRead::Got(t, d) => TimeRead::Got(RawTime::Fixed(t), d),
+        ClockRead::Missing => event_time(s, c),
+    }
 }

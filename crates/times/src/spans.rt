@@ -16,6 +16,7 @@ use crate::TailRead;
 use crate::TailThen;
 use crate::TimeRead;
 use crate::clocks::clock;
+use crate::clocks::event_time;
 use crate::clocks::raw_time;
 use crate::meaning::span_meaning;
 use names::Cursor;
@@ -119,11 +120,15 @@ fn span_item_behind(s: &[u8], m: Manner, p: usize, c: Cursor, start: RawTime) ->
 pub fn time_item(s: &[u8], m: Manner, c: Cursor) -> ItemRead
     ensures { λ r. ⌜ spans.timeItem m (now (s .entry)) (c .at) ≡ seenItem r ⌝ }
 {
-    let first = raw_time(s, c);
-    let TimeRead::Got(start, d) = first else {
+    let fixed = clock(s, c);
+    if let ClockRead::Got(t, d) = fixed {
+        return span_item_behind(s, m, c.at, d, RawTime::Fixed(t));
+    }
+    let first = event_time(s, c);
+    let TimeRead::Got(start, e) = first else {
         return ItemRead::Missing;
     };
-    span_item_behind(s, m, c.at, d, start)
+    span_item_behind(s, m, c.at, e, start)
 }
 
 // The item that begins at p with an event, behind the event.

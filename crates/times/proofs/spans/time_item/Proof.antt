@@ -1,27 +1,48 @@
 -- `times::time_item` meets its contract.
 use borrow.Author.Needs.{needs}
-use mathlib.Core.Path.{ap, _∙_}
-use Rattle.names.proofs.Facts.{Said, said}
+use mathlib.Core.List.{List}
+use mathlib.Core.Path.{_≡_, ap, _∙_}
+use Prim.Native.Nat.{ℕ}
+use denote.Ref.{now}
+use Rattle.names.specs.Read.{Read, got, none}
 use Rattle.times.specs.Spans.{spanBehind, spanShape, timeItem}
-use Rattle.times.specs.Seen.{seenTime}
+use Rattle.times.specs.Seen.{seenClock, seenTime}
+use Rattle.times.specs.declared.Clock.{Clock}
 use Rattle.times.specs.declared.RawTime.{RawTime}
-use Rattle.times.specs.Times.{rawTime}
+use Rattle.times.specs.declared.RawTime.the-variants.{Fixed}
+use Rattle.times.specs.Times.{clock, eventTime, rawTime}
 use Rattle.times.specs.Meanings.{spanMeaning}
 use Rattle.records.proofs.Anywhere.{item-behind}
 use Rattle.times.proofs.spans.time_item.Statement.{statement}
 use Rattle.times.proofs.spans.time_item.Tie as tie
 
-abbrev first : tie.After-first → Said RawTime
-first c = said (c .before .before .raw-time .ensures) (ap seenTime (c .first .given .1))
+-- a clock time is a time, and where none stands, an event is
+with-clock : (s : List ℕ) (i : ℕ) {t : Clock} {j : ℕ} → clock s i ≡ got t j → rawTime s i ≡ got (Fixed t) j
+unfolding rawTime
+with-clock s i e = rw (e)
+
+without-clock : (s : List ℕ) (i : ℕ) {r : Read RawTime} → clock s i ≡ none → eventTime s i ≡ r → rawTime s i ≡ r
+unfolding rawTime
+without-clock s i e f = rw (e) f
 
 pub time-item-spec : {M : Type 1} → statement M
 unfolding spanShape timeItem
 time-item-spec =
     tie.close
     (tie.spec
-    (λ c κs. search needs)  -- raw-time-requires
-    (λ c. search needs)  -- enum-known-first
-    (λ c. search needs)  -- enum-told
-    (λ c. let v = said (c .before .before .raw-time .ensures) (ap seenTime (c .enum-told .given .1)) in rw (v .is))  -- returns
+    (λ c κs. search needs)  -- clock-requires
+    (λ c. search needs)  -- enum-known-fixed
     (λ c κs. search needs)  -- span-item-behind-requires
-    (λ c. item-behind rawTime spanBehind (spanMeaning _) (first (c .before .before) .is) ∙ c .span-item-behind .ensures))  -- returns-2
+    (λ c. let k = c .before .before .before .before in let a = k .before .before .args in
+    let fixed = with-clock (now (a .s)) (a .c .at) (k .clock .ensures ∙ ap seenClock (c .before .before .fixed .given .1)) in
+    item-behind rawTime spanBehind (spanMeaning _) fixed ∙ c .span-item-behind .ensures)  -- returns
+    (λ c. search needs)  -- enum-told
+    (λ c κs. search needs)  -- event-time-requires
+    (λ c. search needs)  -- enum-known-first
+    (λ c. search needs)  -- enum-told-2
+    (λ c. let e = c .before .before in let k = e .before .before .before in let a = k .before .before .args in
+    rw (without-clock (now (a .s)) (a .c .at) (k .clock .ensures ∙ ap seenClock (e .before .enum-told .given .1)) (e .event-time .ensures ∙ ap seenTime (c .enum-told2 .given .1))))  -- returns-2
+    (λ c κs. search needs)  -- span-item-behind-requires-2
+    (λ c. let e = c .before .before .before .before in let k = e .before .before .before in let a = k .before .before .args in
+    let first = without-clock (now (a .s)) (a .c .at) (k .clock .ensures ∙ ap seenClock (e .before .enum-told .given .1)) (e .event-time .ensures ∙ ap seenTime (c .before .before .first .given .1)) in
+    item-behind rawTime spanBehind (spanMeaning _) first ∙ c .span-item-behind2 .ensures))  -- returns-3
