@@ -28,4 +28,4 @@ pub days-then-apart : (x y : DaysThen) → thenDays x ≡ thenDays y → x ≡ y
 days-then-apart x y e = let h : x .next .at ≡ y .next .at = cc in let k : x .days ≡ y .days = cc in rw (k, h)
 
 pub weekdays-then-apart : (x y : WeekdaysThen) → thenWeekdays x ≡ thenWeekdays y → x ≡ y
-weekdays-then-apart x y e = let h : x .next .at ≡ y .next .at = cc in let k : x .weekdays ≡ y .weekdays = cc in rw (k, h)
+weekdays-then-apart x y e = let h : x .next .at ≡ y .next .at = cc in let k : x .meant ≡ y .meant = cc in rw (k, h)

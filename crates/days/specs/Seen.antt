@@ -3,6 +3,7 @@ use mathlib.Core.Bool.{Bool}
 use Prim.Native.Nat.{ℕ}
 use Rattle.names.specs.Read.{Read, got, none}
 use Rattle.records.specs.declared.Signed.{Signed}
+use Rattle.records.specs.declared.Meant.{Meant}
 use Rattle.days.specs.declared.RawDays.{RawDays}
 use Rattle.days.specs.declared.RawOffset.{RawOffset}
 use Rattle.days.specs.declared.Entry.{Entry}
@@ -57,8 +58,8 @@ thenOffset r = got r.offset (r.next .at)
 abbrev pub thenDays : DaysThen → Read RawDays
 thenDays r = got r.days (r.next .at)
 
-abbrev pub thenWeekdays : WeekdaysThen → Read RawWeekdays
-thenWeekdays r = got r.weekdays (r.next .at)
+abbrev pub thenWeekdays : WeekdaysThen → Read Meant
+thenWeekdays r = got r.meant (r.next .at)
 
 abbrev pub thenLast : LastThen → Read ℕ
 thenLast r = got r.last (r.next .at)

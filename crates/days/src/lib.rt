@@ -9,6 +9,7 @@ pub use holidays::holiday_item_behind;
 use names::Cursor;
 pub use offsets::day_offset;
 pub use offsets::offset;
+use records::Meant;
 use records::Signed;
 pub use weekdays::weekday_item;
 pub use weekdays::weekday_item_behind;
@@ -110,9 +111,9 @@ pub enum WeekdaysRead {
     Missing,
 }
 
-// Weekdays as they are read, and the place after them.
+// What weekdays mean, and the place after them.
 pub struct WeekdaysThen {
-    pub weekdays: RawWeekdays,
+    pub meant: Meant,
     pub next: Cursor,
 }
 

@@ -1,6 +1,6 @@
 // Weekday: `Wd`, `Wd-Wd`, or `Wd[entries]` with optional day offset. In the second edition `Wd` or `Wd-Wd`, each with optional `[entries]` and optional day offset.
 ghost use mathlib.Core.Path.{_≡_};
-ghost use Rattle.names.specs.Read.{maybe};
+ghost use Rattle.names.specs.Read.{maybe, map};
 ghost use Rattle.names.specs.Seen.{Reads};
 ghost use Rattle.records.specs.Seen.{seenItem};
 ghost use Rattle.days.specs.Entries.{noMarks};
@@ -9,7 +9,6 @@ ghost use Rattle.days.specs.Seen.{seenMarks, seenWeekdays, thenLast, the
 use crate::LastThen;
 use crate::MarksRead;
 use crate::MarksThen;
-use crate::RawDays;
 use crate::RawWeekdays;
 use crate::WeekdaysRead;
 use crate::WeekdaysThen;
@@ -30,17 +29,20 @@ use records::Signed;
 use records::WeekDayRange;
 use records::judged;
 
-// Weekdays from first to last, without marks and days.
-fn plain(first: u8, last: u8) -> RawWeekdays
-    ensures { λ r. ⌜ r ≡ weekdays.plain first last ⌝ }
+// All five flags.
+const ALL: u8 = 31;
+
+// The meaning of weekdays without marks and days: all ten flags are set.
+fn plain(first: u8, last: u8) -> Meant
+    ensures { λ r. ⌜ r ≡ weekdays.weekdayMeaning (weekdays.plain first last) ⌝ }
 {
-    let marks = no_marks();
-    RawWeekdays {
+    Meant::Is(Item::Weekdays(WeekDayRange {
         first,
         last,
-        marks,
-        days: RawDays { less: false, n: 0 },
-    }
+        days: Signed { less: false, n: 0 },
+        starts: ALL,
+        ends: ALL,
+    }))
 }
 
 // `-Wd`
@@ -73,17 +75,6 @@ fn bracketed(s: &[u8], c: Cursor) -> MarksRead
     MarksRead::Got(marks, f)
 }
 
-// After the first: `-Wd`.
-fn until_weekday(s: &[u8], c: Cursor, first: u8) -> WeekdaysRead
-    ensures { λ r. ⌜ weekdays.untilWeekday first (now (s .entry)) (c .at) ≡ seenWeekdays r ⌝ }
-{
-    let name = last_weekday(s, c);
-    let Num::Got(last, d) = name else {
-        return WeekdaysRead::Missing;
-    };
-    WeekdaysRead::Got(plain(first, last as u8), d)
-}
-
 // After the first: `[entries]` with optional day offset.
 fn with_entries(s: &[u8], c: Cursor, first: u8) -> WeekdaysRead
     ensures { λ r. ⌜ weekdays.withEntries first (now (s .entry)) (c .at) ≡ seenWeekdays r ⌝ }
@@ -108,25 +99,38 @@ fn with_entries(s: &[u8], c: Cursor, first: u8) -> WeekdaysRead
 
 // After the first, in the first edition: `-Wd`, or `[entries]` with optional day offset, or nothing.
 fn narrow_behind(s: &[u8], c: Cursor, first: u8) -> WeekdaysThen
-    ensures { λ r. ⌜ weekdays.narrowBehind first (now (s .entry)) (c .at) ≡ thenWeekdays r ⌝ }
+    ensures { λ r. ⌜ map weekdays.weekdayMeaning (weekdays.narrowBehind first) (now (s .entry)) (c .at) ≡ thenWeekdays r ⌝ }
 {
-    let until = until_weekday(s, c, first);
-    if let WeekdaysRead::Got(range, d) = until {
+    let name = last_weekday(s, c);
+    if let Num::Got(last, d) = name {
+        let range = plain(first, last as u8);
         return WeekdaysThen {
-            weekdays: range,
+            meant: range,
             next: d,
         };
     }
+    // Most weekdays have no marks: they are told before entries are read.
+    let left = c.sign(s, b'[');
+    let Step::Got(_) = left else {
+        let bare = plain(first, first);
+        return WeekdaysThen {
+            meant: bare,
+            next: c,
+        };
+    };
     let marked = with_entries(s, c, first);
     match marked {
-        WeekdaysRead::Got(some, e) => WeekdaysThen {
-            weekdays: some,
-            next: e,
-        },
+        WeekdaysRead::Got(some, e) => {
+            let judged = weekday_meaning(some);
+            WeekdaysThen {
+                meant: judged,
+                next: e,
+            }
+        }
         WeekdaysRead::Missing => {
             let one = plain(first, first);
             WeekdaysThen {
-                weekdays: one,
+                meant: one,
                 next: c,
             }
         }
@@ -166,7 +170,7 @@ fn any_marks(s: &[u8], c: Cursor) -> MarksThen
 
 // After the first, in the second edition: `-Wd` or none, `[entries]` or none, a day offset or none.
 fn wide_behind(s: &[u8], c: Cursor, first: u8) -> WeekdaysThen
-    ensures { λ r. ⌜ weekdays.wideBehind first (now (s .entry)) (c .at) ≡ thenWeekdays r ⌝ }
+    ensures { λ r. ⌜ map weekdays.weekdayMeaning (weekdays.wideBehind first) (now (s .entry)) (c .at) ≡ thenWeekdays r ⌝ }
 {
     let range = any_last(s, c, first);
     let marked = any_marks(s, range.next);
@@ -174,20 +178,18 @@ fn wide_behind(s: &[u8], c: Cursor, first: u8) -> WeekdaysThen
     let marks = marked.marks;
     let days = moved.days;
     let next = moved.next;
-    WeekdaysThen {
-        weekdays: RawWeekdays {
-            first,
-            last: range.last,
-            marks,
-            days,
-        },
-        next,
-    }
+    let meant = weekday_meaning(RawWeekdays {
+        first,
+        last: range.last,
+        marks,
+        days,
+    });
+    WeekdaysThen { meant, next }
 }
 
-// The shape after the first weekday.
+// The shape after the first weekday, and its meaning.
 fn weekday_behind(s: &[u8], m: Manner, c: Cursor, first: u8) -> WeekdaysThen
-    ensures { λ r. ⌜ weekdays.weekdayBehind m first (now (s .entry)) (c .at) ≡ thenWeekdays r ⌝ }
+    ensures { λ r. ⌜ map weekdays.weekdayMeaning (weekdays.weekdayBehind m first) (now (s .entry)) (c .at) ≡ thenWeekdays r ⌝ }
 {
     match m {
         Manner::Second => wide_behind(s, c, first),
@@ -205,8 +207,8 @@ fn flagged(first: u8, last: u8, days: Signed, starts: u8, ends: u8) -> Meant
                 first,
                 last,
                 days,
-                starts: 31,
-                ends: 31,
+                starts: ALL,
+                ends: ALL,
             }));
         }
     }
@@ -247,9 +249,9 @@ pub fn weekday_item_behind(s: &[u8], m: Manner, p: usize, c: Cursor, first: u8) 
     ensures { λ r. ⌜ weekdays.weekdayItemBehind m p first (now (s .entry)) (c .at) ≡ seenItem r ⌝ }
 {
     let shape = weekday_behind(s, m, c, first);
-    let r = shape.weekdays;
+    let meant = shape.meant;
     let next = shape.next;
-    judged(p, weekday_meaning(r), next)
+    judged(p, meant, next)
 }
 
 // A weekday item.

@@ -1,28 +1,50 @@
 -- `days::narrow_behind` meets its contract.
+use Prim.Native.Nat.{ℕ}
+use mathlib.Core.List.{List}
+use mathlib.Core.Path.{_≡_, ap}
 use borrow.Author.Needs.{needs}
-use mathlib.Core.Path.{ap}
-use Rattle.names.proofs.Facts.{Said, said}
-use Rattle.days.specs.Weekdays.{narrowBehind}
+use native.Mathlib.Omega.{arith}
+use denote.Ref.{now}
+use Rattle.names.specs.Read.{none}
+use Rattle.names.specs.Texts.{byte}
+use Rattle.names.proofs.Facts.{Was, was, went, said}
+use Rattle.days.specs.Weekdays.{bracketed, untilWeekday, withEntries, narrowBehind}
 use Rattle.days.specs.Seen.{seenWeekdays}
-use Rattle.days.specs.declared.RawWeekdays.{RawWeekdays}
 use Rattle.days.proofs.weekdays.narrow_behind.Statement.{statement}
 use Rattle.days.proofs.weekdays.narrow_behind.Tie as tie
 
-abbrev no-until : tie.After-enum-told → Said RawWeekdays
-no-until c = said (c .before .before .until-weekday .ensures) (ap seenWeekdays (c .enum-told .given .1))
+abbrev range : tie.After-name → Was
+range c = was (c .before .before .last-weekday .ensures) (c .name .given .1)
+
+abbrev no-range : tie.After-enum-told → Was
+no-range c = was (c .before .before .last-weekday .ensures) (c .enum-told .given .1)
+
+-- where no bracket stands, no entries do
+no-entries : (first : ℕ) (s : List ℕ) (i : ℕ) → byte 91 s i ≡ none → withEntries first s i ≡ none
+unfolding withEntries bracketed
+no-entries first s i e = rw (e)
 
 pub narrow-behind-spec : {M : Type 1} → statement M
-unfolding narrowBehind
+unfolding narrowBehind untilWeekday
 narrow-behind-spec =
     tie.close
     (tie.spec
-    (λ c κs. search needs)  -- until-weekday-requires
-    (λ c. search needs)  -- enum-known-until
-    (λ c. rw (said (c .before .before .before .until-weekday .ensures) (ap seenWeekdays (c .before .until .given .1)) .is))  -- returns
+    (λ c κs. search needs)  -- last-weekday-requires
+    (λ c. search needs)  -- enum-known-name
+    (λ c. omega (arith, range (c .before)))  -- cast-plain
+    (λ c κs. search needs)  -- plain-requires
+    (λ c. rw (range (c .before .before) .is, c .plain .ensures))  -- returns
     (λ c. search needs)  -- enum-told
+    (λ c κs. search needs)  -- sign-requires
+    (λ c. search needs)  -- enum-told-2
+    (λ c. search needs)  -- enum-told-3
+    (λ c κs. search needs)  -- plain-requires-2
+    (λ c. let k = c .before .before .before in let a = k .before .before .before .before .before .args in
+    rw (no-range (k .before) .is, no-entries (a .first) (now (a .s)) (a .c .at) (went (k .sign .ensures) (c .before .enum-told3 .given .1) .is), c .plain2 .ensures))  -- returns-2
     (λ c κs. search needs)  -- with-entries-requires
     (λ c. search needs)  -- enum-known-marked
-    (λ c. search needs)  -- enum-told-2
-    (λ c κs. search needs)  -- plain-requires
-    (λ c. rw (no-until (c .before .before .before .before) .is, said (c .before .before .before .with-entries .ensures) (ap seenWeekdays (c .before .marked .given .1)) .is))  -- returns-2
-    (λ c. rw (no-until (c .before .before .before .before) .is, said (c .before .before .before .with-entries .ensures) (ap seenWeekdays (c .before .enum-told2 .given .1)) .is, c .plain .ensures)))  -- returns-3
+    (λ c κs. search needs)  -- weekday-meaning-requires
+    (λ c. search needs)  -- enum-told-4
+    (λ c κs. search needs)  -- plain-requires-3
+    (λ c. let k = c .before .before .before .before in rw (no-range (k .before .before .before .before) .is, said (k .with-entries .ensures) (ap seenWeekdays (c .before .before .marked .given .1)) .is, c .weekday-meaning .ensures))  -- returns-3
+    (λ c. let k = c .before .before .before in rw (no-range (k .before .before .before .before) .is, said (k .with-entries .ensures) (ap seenWeekdays (c .before .enum-told4 .given .1)) .is, c .plain3 .ensures)))  -- returns-4

@@ -1,9 +1,26 @@
 -- `days::weekday_item_behind` meets its contract.
+use Prim.Native.Nat.{ℕ}
+use mathlib.Core.List.{List, []}
+use mathlib.Core.Path.{_≡_, _∙_}
 use borrow.Author.Needs.{needs}
+use denote.Ref.{now}
+use Rattle.names.specs.Read.{Read, got, none, refused, Reader, follow, nothing, pure, map}
+use Rattle.records.specs.Items.{judged, meant}
+use Rattle.records.specs.declared.Item.{Item}
+use Rattle.records.specs.declared.Meant.{Meant}
+use Rattle.records.proofs.Anywhere.{judged-in}
 use Rattle.days.specs.Weekdays.{weekdayBehind, weekdayMeaning, weekdayItemBehind}
-use Rattle.records.proofs.Anywhere.{meant-is}
 use Rattle.days.proofs.weekdays.weekday_item_behind.Statement.{statement}
 use Rattle.days.proofs.weekdays.weekday_item_behind.Tie as tie
+
+-- a shape that was read with its meaning, judged
+meant-as : {R : Type 0} (p : ℕ) (shape : Reader R) (meaning : R → Meant) (s : List ℕ) (i : ℕ) {x : Meant} {j : ℕ} → map meaning shape s i ≡ got x j → meant p shape meaning s i ≡ judged p x [] j
+meant-as {R} p shape meaning s i {x} {j} h = go (shape s i) h ∙ judged-in p x s [] j
+  where
+    go : (r : Read R) → follow s i r (λ a. pure (meaning a)) nothing ≡ got x j → follow s i r (λ a. judged p (meaning a)) nothing ≡ judged p x s j
+    go (got a k) q = let e : meaning a ≡ x = cc in let f : k ≡ j = cc in rw (e, f)
+    go none q = cc
+    go (refused k n) q = cc
 
 pub weekday-item-behind-spec : {M : Type 1} → statement M
 unfolding weekdayItemBehind
@@ -11,6 +28,6 @@ weekday-item-behind-spec =
     tie.close
     (tie.spec
     (λ c κs. search needs)  -- weekday-behind-requires
-    (λ c κs. search needs)  -- weekday-meaning-requires
     (λ c κs. search needs)  -- judged-requires
-    (λ c. meant-is (c .before .before .before .before .before .before .args .p) (weekdayBehind (c .before .before .before .before .before .before .args .m) (c .before .before .before .before .before .before .args .first)) weekdayMeaning (c .before .before .before .before .weekday-behind .ensures) (c .before .weekday-meaning .ensures) (c .judged .ensures)))  -- returns
+    (λ c. let b = c .before .before in let a = b .before .before .args in
+    meant-as (a .p) (weekdayBehind (a .m) (a .first)) weekdayMeaning (now (a .s)) (a .c .at) (b .weekday-behind .ensures) ∙ c .judged .ensures))  -- returns

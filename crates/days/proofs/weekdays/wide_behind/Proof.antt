@@ -12,4 +12,5 @@ wide-behind-spec =
     (λ c κs. search needs)  -- any-last-requires
     (λ c κs. search needs)  -- any-marks-requires
     (λ c κs. search needs)  -- any-days-requires
-    (λ c. let d = c .before .before .before in rw (d .before .before .any-last .ensures, d .before .any-marks .ensures, d .any-days .ensures)))  -- returns
+    (λ c κs. search needs)  -- weekday-meaning-requires
+    (λ c. let d = c .before .before .before .before in rw (d .before .before .any-last .ensures, d .before .any-marks .ensures, d .any-days .ensures, c .weekday-meaning .ensures)))  -- returns
