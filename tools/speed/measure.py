@@ -1,7 +1,8 @@
 #!/usr/bin/env python3
-"""What a reading costs: instructions a sheet, ours and the Rust's, and how the cost grows with the sheet. Writes the tables of docs/SPEED.md.
+"""What a reading costs: instructions a sheet, ours, a plain C reader's and the Rust's, and how the cost grows with the sheet. Writes the tables of
+docs/SPEED.md.
 
-    measure.py BENCH [NAME=ORACLE ...] [--emulated PLUGIN]
+    measure.py BENCH BENCH_C [NAME=ORACLE ...] [--emulated PLUGIN]      BENCH_C: bench.c with reader.c in the place of the library
 
 Instructions are counted (callgrind; with --emulated by qemu-x86_64 and the plugin insn.c), for two numbers of rounds: the difference, by the rounds and
 the sheets between them, is one reading without start and end of the process. It is the same in every run. Seconds, on x86-64 alone, are the best of
@@ -95,21 +96,23 @@ def sheets_by_size(size):
 def main():
     p = argparse.ArgumentParser()
     p.add_argument("bench")
+    p.add_argument("bench_c")
     p.add_argument("rust", nargs="*")
     p.add_argument("--emulated", metavar="PLUGIN")
     args = p.parse_args()
     meter = Meter(args.emulated)
-    ours = [args.bench]
+    ours, plain = [args.bench], [args.bench_c]
     rusts = [(name, [path, "bench"]) for name, _, path in (r.partition("=") for r in args.rust)]
 
     sheets = lines_of(COMMON)
-    for words in [ours] + [words for _, words in rusts]:
+    for words in [ours, plain] + [words for _, words in rusts]:
         if meter.accepted([*words, COMMON, "1"]) != len(sheets):
             sys.exit(f"not every common sheet is accepted by {words}")
     print(f"{len(sheets)} common sheets, {sum(map(len, sheets)) / len(sheets):.1f} bytes on average:\n")
     print("| reader | instructions a sheet | microseconds a sheet |\n|---|---|---|")
     figures = []
-    for name, words, few, many in [("`lorukinde_read_sheet`", ours, 10, 110)] + [(name, words, 2, 12) for name, words in rusts]:
+    readers = [("`lorukinde_read_sheet`", ours, 10, 110), ("a plain C reader, `tools/speed/reader.c`", plain, 10, 110)]
+    for name, words, few, many in readers + [(name, words, 2, 12) for name, words in rusts]:
         figures.append(meter.each(words, COMMON, few, many))
         wall = "" if args.emulated else f"{1e6 * meter.best(words, COMMON, few, 40 * many):.2f}"
         print(f"| {name} | {figures[-1]:,.0f} | {wall} |", flush=True)
@@ -128,9 +131,10 @@ def main():
     def asked(what, seen, good):
         print(f"| {what} | {seen} | {'yes' if good else 'no'} |")
     print("\n| asked | seen | met |\n|---|---|---|")
-    asked("at most 5,000 instructions a common sheet", f"{figures[0]:,.0f}", figures[0] <= 5000)
-    asked("the aim: at most 2,500", f"{figures[0]:,.0f}", figures[0] <= 2500)
-    for (name, _), figure in zip(rusts, figures[1:]):
+    for limit in (5000, 2500, 1500, 1300):
+        asked(f"at most {limit:,} instructions a common sheet", f"{figures[0]:,.0f}", figures[0] <= limit)
+    asked("as many as plain C", f"{figures[0] / figures[1]:.2f} times", figures[0] <= figures[1])
+    for (name, _), figure in zip(rusts, figures[2:]):
         asked(f"at least 10 times fewer than {name}", f"{figure / figures[0]:.1f} times", figure >= 10 * figures[0])
     asked("a byte of a longer sheet costs at most twice one of 24", f"at most {max(growth):.2f} times", max(growth) <= 2)
 

@@ -1,5 +1,5 @@
 #!/usr/bin/env bash
-# What a reading costs, ours and the Rust's in one run: writes the tables of docs/SPEED.md.
+# What a reading costs, ours, a plain C reader's and the Rust's in one run: writes the tables of docs/SPEED.md.
 #   NO_RUST   if set: the Rust is left out
 # On x86-64 valgrind counts. Elsewhere both are built for x86-64 and qemu-x86_64 counts.
 set -euo pipefail
@@ -7,6 +7,7 @@ here=$(cd "$(dirname "$0")" && pwd)
 . "$here/../archive.sh"
 dir=$root/target/speed
 build "$dir/bench" "$here/bench.c"
+$compiler -O2 -Wall -Wextra -I "$root/include" "$here/bench.c" "$here/reader.c" -o "$dir/bench_c"
 
 # rust FOLDER: the Rust, as the environment has it, if it is not there
 rust() {
@@ -20,8 +21,8 @@ if [ -z "${NO_RUST:-}" ]; then
 fi
 if [ "$(uname -m)" = x86_64 ]; then
     need valgrind valgrind
-    exec python3 "$here/measure.py" "$dir/bench" "${rusts[@]}"
+    exec python3 "$here/measure.py" "$dir/bench" "$dir/bench_c" "${rusts[@]}"
 fi
 need gcc gcc libc6-dev
 gcc -O2 -shared -fPIC "$here/insn.c" -o "$dir/insn.so"
-exec python3 "$here/measure.py" "$dir/bench" "${rusts[@]}" --emulated "$dir/insn.so"
+exec python3 "$here/measure.py" "$dir/bench" "$dir/bench_c" "${rusts[@]}" --emulated "$dir/insn.so"
