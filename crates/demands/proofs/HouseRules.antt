@@ -9,8 +9,7 @@ use Rattle.records.specs.Items.{item}
 use Rattle.records.specs.declared.Meant.{Meant}
 use Rattle.times.specs.Meanings.{spanOf, spanMeaning}
 use Rattle.times.specs.Spans.{spanShape, timeItem}
-use Rattle.times.specs.declared.RawSpan.{RawSpan}
-use Rattle.times.specs.declared.RawSpan.the-variants.{Alone, Open, Until}
+use Rattle.times.specs.Shapes.{RawSpan, Alone, Open, Until}
 use Rattle.days.specs.Weekdays.{weekdayShape, weekdayItem}
 use Rattle.items.specs.Kinds.{Placed, itemOf, itemIn}
 use Rattle.items.specs.declared.Kind.{Kind}

@@ -21,8 +21,7 @@ use Rattle.times.specs.Times.{clock, moved, movedEvent, rawTime}
 use Rattle.times.specs.Spans.{repeated, tail, untilTime, spanBehind, spanShape, timeItem}
 use Rattle.times.specs.Meanings.{goodSpan, spanOf, spanMeaning}
 use Rattle.times.specs.declared.RawTime.{RawTime}
-use Rattle.times.specs.declared.RawSpan.{RawSpan}
-use Rattle.times.specs.declared.RawSpan.the-variants.{Alone, Open, Until}
+use Rattle.times.specs.Shapes.{RawSpan, Alone, Open, Until}
 use Rattle.days.specs.Offsets.{plusOrMinus, dayOffset, anyDays, wdayOffset, offset, goodDays, daysOf}
 use Rattle.days.specs.Entries.{backEntry, frontEntry, entry, nextEntry, entries, bits}
 use Rattle.days.specs.Weekdays.{lastWeekday, bracketed, wideBehind, weekdayShape, flagged, weekdayMeaning, weekdayItem}

@@ -22,8 +22,7 @@ use Rattle.records.specs.declared.Meant.{Meant}
 use Rattle.records.specs.declared.Meant.the-variants.{Is, Refused}
 use Rattle.times.specs.Meanings.{goodSpan, spanOf, spanMeaning}
 use Rattle.times.specs.Spans.{spanShape, timeItem}
-use Rattle.times.specs.declared.RawSpan.{RawSpan}
-use Rattle.times.specs.declared.RawSpan.the-variants.{Alone, Open, Until}
+use Rattle.times.specs.Shapes.{RawSpan, Alone, Open, Until}
 use Rattle.days.specs.Offsets.{plusOrMinus, dayOffset, noDays, anyDays}
 use Rattle.days.specs.Entries.{noMarks}
 use Rattle.days.specs.Weekdays.{rawWeekdays, plain, lastWeekday, bracketed, untilWeekday, withEntries, narrowBehind, wideBehind, weekdayBehind, weekdayShape, weekdayMeaning, weekdayItem}

@@ -1,4 +1,5 @@
 pub mod Times
+pub mod Shapes
 pub mod Spans
 pub mod Meanings
 pub mod Seen

@@ -21,8 +21,7 @@ use Rattle.times.specs.declared.RawTime.{RawTime}
 use Rattle.times.specs.declared.RawTime.the-variants.{Fixed, Sun}
 use Rattle.times.specs.declared.RawTail.{RawTail}
 use Rattle.times.specs.declared.RawTail.the-variants.{Nothing, Plus, Minutes, Hours}
-use Rattle.times.specs.declared.RawSpan.{RawSpan}
-use Rattle.times.specs.declared.RawSpan.the-variants.{Alone, Open, Until}
+use Rattle.times.specs.Shapes.{RawSpan, Alone, Open, Until}
 
 -- minutes since midnight
 abbrev pub minutesOf : Clock → ℕ

@@ -10,10 +10,6 @@ use Rattle.times.specs.declared.RawTail.{RawTail}
 use Rattle.times.specs.declared.TailRead.{TailRead}
 use Rattle.times.specs.declared.TailRead.the-variants as tail
 use Rattle.times.specs.declared.TailThen.{TailThen}
-use Rattle.times.specs.declared.RawSpan.{RawSpan}
-use Rattle.times.specs.declared.SpanRead.{SpanRead}
-use Rattle.times.specs.declared.SpanRead.the-variants as span
-use Rattle.times.specs.declared.SpanThen.{SpanThen}
 
 abbrev pub seenClock : ClockRead → Read Clock
 seenClock (clock.Got t c) = got t (c .at)
@@ -30,10 +26,3 @@ seenTail tail.Missing = none
 -- what is always there, if only as nothing
 abbrev pub thenTail : TailThen → Read RawTail
 thenTail r = got r.tail (r.next .at)
-
-abbrev pub seenSpan : SpanRead → Read RawSpan
-seenSpan (span.Got t c) = got t (c .at)
-seenSpan span.Missing = none
-
-abbrev pub thenSpan : SpanThen → Read RawSpan
-thenSpan r = got r.span (r.next .at)

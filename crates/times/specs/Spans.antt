@@ -11,8 +11,7 @@ use Rattle.times.specs.Meanings.{spanMeaning}
 use Rattle.times.specs.declared.RawTime.{RawTime}
 use Rattle.times.specs.declared.RawTail.{RawTail}
 use Rattle.times.specs.declared.RawTail.the-variants.{Nothing, Plus, Minutes, Hours}
-use Rattle.times.specs.declared.RawSpan.{RawSpan}
-use Rattle.times.specs.declared.RawSpan.the-variants.{Alone, Open, Until}
+use Rattle.times.specs.Shapes.{RawSpan, Alone, Open, Until}
 
 -- behind `/`: `H:MM` or `MM`
 unfoldable pub repeated : Reader RawTail

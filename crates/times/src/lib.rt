@@ -27,13 +27,6 @@ pub enum RawTail {
     Hours(Clock),
 }
 
-// A span as it is read: a time alone, a time and a plus, or two times.
-pub enum RawSpan {
-    Alone(RawTime),
-    Open(RawTime),
-    Until(RawTime, RawTime, RawTail),
-}
-
 // What reading a clock time finds.
 pub enum ClockRead {
     Got(Clock, Cursor),
@@ -55,17 +48,5 @@ pub enum TailRead {
 // What stands behind a span's end, and the place after it.
 pub struct TailThen {
     pub tail: RawTail,
-    pub next: Cursor,
-}
-
-// What reading a span finds behind a minus.
-pub enum SpanRead {
-    Got(RawSpan, Cursor),
-    Missing,
-}
-
-// A span as it is read, and the place after it.
-pub struct SpanThen {
-    pub span: RawSpan,
     pub next: Cursor,
 }

@@ -1,8 +1,9 @@
 // What a span means: its numbers' ranges, and the item.
 ghost use mathlib.Core.Path.{_≡_};
+ghost use Rattle.names.specs.declared.Manner.{Manner};
+ghost use Rattle.times.specs.Shapes.{Alone, Open, Until};
 ghost use Rattle.times.specs.Meanings as meanings;
 use crate::Clock;
-use crate::RawSpan;
 use crate::RawTail;
 use crate::RawTime;
 use names::Manner;
@@ -87,20 +88,14 @@ fn good_tail(t: RawTail) -> bool
     }
 }
 
-// A span in range.
-fn good_span(r: RawSpan) -> bool
-    ensures { λ x. ⌜ x ≡ meanings.goodSpan r ⌝ }
+// Two times and a tail in range.
+fn good_until(a: RawTime, b: RawTime, t: RawTail) -> bool
+    ensures { λ x. ⌜ x ≡ meanings.goodSpan (Until a b t) ⌝ }
 {
-    match r {
-        RawSpan::Alone(t) => good_start(t),
-        RawSpan::Open(t) => good_start(t),
-        RawSpan::Until(a, b, t) => {
-            if good_start(a) {
-                if good_end(b) { good_tail(t) } else { false }
-            } else {
-                false
-            }
-        }
+    if good_start(a) {
+        if good_end(b) { good_tail(t) } else { false }
+    } else {
+        false
     }
 }
 
@@ -176,44 +171,51 @@ fn alone_of(m: Manner, t: RawTime) -> Meant
     }
 }
 
-// What a span in range is: `10:00+` ends at 24:00, open.
-fn span_of(m: Manner, r: RawSpan) -> Meant
-    ensures { λ x. ⌜ x ≡ meanings.spanOf m r ⌝ }
+// The meaning of a time alone.
+pub fn alone_meaning(m: Manner, only: RawTime) -> Meant
+    ensures { λ x. ⌜ x ≡ meanings.spanMeaning m (Alone only) ⌝ }
 {
-    match r {
-        RawSpan::Alone(t) => alone_of(m, t),
-        RawSpan::Open(t) => {
-            let start = time_of(t);
-            Meant::Is(Item::Times(Span {
-                start,
-                end: Time::Fixed(1440),
-                repeats: Repeat::Never,
-                plus: true,
-                point: false,
-            }))
-        }
-        RawSpan::Until(a, b, t) => {
-            let start = time_of(a);
-            let end = time_of(b);
-            let repeats = repeat_of(t);
-            let plus = plus_of(t);
-            Meant::Is(Item::Times(Span {
-                start,
-                end,
-                repeats,
-                plus,
-                point: false,
-            }))
-        }
+    if good_start(only) {
+        alone_of(m, only)
+    } else {
+        Meant::Refused(RANGE)
     }
 }
 
-// The meaning.
-pub fn span_meaning(m: Manner, r: RawSpan) -> Meant
-    ensures { λ x. ⌜ x ≡ meanings.spanMeaning m r ⌝ }
+// The meaning of a time and a plus: `10:00+` ends at 24:00, open.
+pub fn open_meaning(t: RawTime) -> Meant
+    ensures { λ x. ⌜ ((m : Manner) → x ≡ meanings.spanMeaning m (Open t)) ⌝ }
 {
-    if good_span(r) {
-        span_of(m, r)
+    if good_start(t) {
+        let start = time_of(t);
+        Meant::Is(Item::Times(Span {
+            start,
+            end: Time::Fixed(1440),
+            repeats: Repeat::Never,
+            plus: true,
+            point: false,
+        }))
+    } else {
+        Meant::Refused(RANGE)
+    }
+}
+
+// The meaning of two times and what stands after the end.
+pub fn until_meaning(a: RawTime, b: RawTime, t: RawTail) -> Meant
+    ensures { λ x. ⌜ ((m : Manner) → x ≡ meanings.spanMeaning m (Until a b t)) ⌝ }
+{
+    if good_until(a, b, t) {
+        let start = time_of(a);
+        let end = time_of(b);
+        let repeats = repeat_of(t);
+        let plus = plus_of(t);
+        Meant::Is(Item::Times(Span {
+            start,
+            end,
+            repeats,
+            plus,
+            point: false,
+        }))
     } else {
         Meant::Refused(RANGE)
     }

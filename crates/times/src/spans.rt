@@ -4,21 +4,21 @@ ghost use Rattle.records.specs.Items.{meant};
 ghost use Rattle.records.specs.Seen.{seenItem};
 ghost use Rattle.times.specs.Meanings as meanings;
 ghost use Rattle.times.specs.Spans as spans;
-ghost use Rattle.times.specs.Seen.{seenTail, thenTail, seenSpan, thenSpan};
+ghost use Rattle.names.specs.declared.Manner.{Manner};
+ghost use Rattle.times.specs.Seen.{seenTail, thenTail};
 use crate::Clock;
 use crate::ClockRead;
-use crate::RawSpan;
 use crate::RawTail;
 use crate::RawTime;
-use crate::SpanRead;
-use crate::SpanThen;
 use crate::TailRead;
 use crate::TailThen;
 use crate::TimeRead;
 use crate::clocks::clock;
 use crate::clocks::event_time;
 use crate::clocks::raw_time;
-use crate::meaning::span_meaning;
+use crate::meaning::alone_meaning;
+use crate::meaning::open_meaning;
+use crate::meaning::until_meaning;
 use names::Cursor;
 use names::Manner;
 use names::Num;
@@ -67,53 +67,37 @@ fn tail(s: &[u8], c: Cursor) -> TailThen
     }
 }
 
-// Behind a start: `-` and an end, and what stands behind it.
-fn until_time(s: &[u8], c: Cursor, start: RawTime) -> SpanRead
-    ensures { λ r. ⌜ spans.untilTime start (now (s .entry)) (c .at) ≡ seenSpan r ⌝ }
+// The item that begins at p, after its start: `-` and an end, and what stands after it.
+fn until_item(s: &[u8], p: usize, c: Cursor, start: RawTime) -> ItemRead
+    ensures { λ r. ⌜ ((m : Manner) → meant p (spans.untilTime start) (meanings.spanMeaning m) (now (s .entry)) (c .at) ≡ seenItem r) ⌝ }
 {
     let minus = c.sign(s, b'-');
     let Step::Got(d) = minus else {
-        return SpanRead::Missing;
+        return ItemRead::Missing;
     };
     let time = raw_time(s, d);
     let TimeRead::Got(end, e) = time else {
-        return SpanRead::Missing;
+        return ItemRead::Missing;
     };
     let t = tail(s, e);
     let last = t.tail;
     let next = t.next;
-    SpanRead::Got(RawSpan::Until(start, end, last), next)
+    judged(p, until_meaning(start, end, last), next)
 }
 
-// The shape of a span behind its start.
-fn span_behind(s: &[u8], c: Cursor, start: RawTime) -> SpanThen
-    ensures { λ r. ⌜ spans.spanBehind start (now (s .entry)) (c .at) ≡ thenSpan r ⌝ }
-{
-    let plus = c.sign(s, b'+');
-    if let Step::Got(d) = plus {
-        return SpanThen {
-            span: RawSpan::Open(start),
-            next: d,
-        };
-    }
-    let until = until_time(s, c, start);
-    match until {
-        SpanRead::Got(span, e) => SpanThen { span, next: e },
-        SpanRead::Missing => SpanThen {
-            span: RawSpan::Alone(start),
-            next: c,
-        },
-    }
-}
-
-// The item that begins at p, behind its start.
+// The item that begins at p, after its start: a plus, an end, or nothing.
 fn span_item_behind(s: &[u8], m: Manner, p: usize, c: Cursor, start: RawTime) -> ItemRead
     ensures { λ r. ⌜ meant p (spans.spanBehind start) (meanings.spanMeaning m) (now (s .entry)) (c .at) ≡ seenItem r ⌝ }
 {
-    let shape = span_behind(s, c, start);
-    let span = shape.span;
-    let next = shape.next;
-    judged(p, span_meaning(m, span), next)
+    let plus = c.sign(s, b'+');
+    if let Step::Got(d) = plus {
+        return judged(p, open_meaning(start), d);
+    }
+    let until = until_item(s, p, c, start);
+    match until {
+        ItemRead::Missing => judged(p, alone_meaning(m, start), c),
+        _ => until,
+    }
 }
 
 // An item of a time list.
