@@ -51,15 +51,17 @@ others = 0 ∷ 1 ∷ 2 ∷ 3 ∷ 4 ∷ 5 ∷ []
 same : (h : Judgement) → h ≡ record { first = firstOf (h .first) Nowhere; end = h .end }
 same h = rw (first-none (h .first))
 
--- they change nothing
-pub other-item : (h : Judgement) (a : Item) (p : ℕ) → OneOf others (tagOf item.the-type a) → h ≡ withHouseItem h (a, p)
-other-item h (Years r) p k = same h
-other-item h (Months r) p k = same h
-other-item h (Dates r) p k = same h
-other-item h (Weeks r) p k = same h
-other-item h (Weekdays r) p k = same h
-other-item h (Holidays r) p k = same h
-other-item h (Times x) p k = absurd (miss others 6 tt k)
+-- they change nothing, in any manner
+pub other-item : (m : Manner) (h : Judgement) (a : Item) (p : ℕ) → OneOf others (tagOf item.the-type a) → h ≡ withItem m h (a, p)
+other-item First h a p k = refl
+other-item Second h a p k = refl
+other-item House h (Years r) p k = same h
+other-item House h (Months r) p k = same h
+other-item House h (Dates r) p k = same h
+other-item House h (Weeks r) p k = same h
+other-item House h (Weekdays r) p k = same h
+other-item House h (Holidays r) p k = same h
+other-item House h (Times x) p k = absurd (miss others 6 tt k)
 
 -- where nothing breaks, nothing is judged to
 pub judged-none : (m : Manner) → judgedBy m Nowhere ≡ Nowhere

@@ -1,5 +1,6 @@
 // The rules and their items, one after another: the first break is kept. Only a house sheet is judged.
 ghost use mathlib.Core.Path.{_≡_};
+ghost use Rattle.records.specs.declared.Item.the-variants.{Times};
 ghost use Rattle.house.specs.Breaks as breaks;
 use crate::Break;
 use crate::Judgement;
@@ -8,6 +9,7 @@ use crate::spans::span_break;
 use names::HOUSE_FORM;
 use names::Manner;
 use records::Item;
+use records::Span;
 
 // A break, or else another.
 pub fn first_of(a: Break, b: Break) -> Break
@@ -47,21 +49,16 @@ impl Judgement {
         }
     }
 
-    // With an item more, in a house sheet.
-    fn house_item(self, a: Item, place: usize) -> Judgement
-        ensures { λ r. ⌜ r ≡ breaks.withHouseItem self (a, place) ⌝ }
+    // With a span more, in a house sheet.
+    fn span(self, x: Span, place: usize) -> Judgement
+        ensures { λ r. ⌜ r ≡ breaks.withHouseItem self (Times x, place) ⌝ }
     {
-        match a {
-            Item::Times(x) => {
-                let before = self.first;
-                let first = first_of(before, span_break(self.end, place, x));
-                let to = x.end;
-                Judgement {
-                    first,
-                    end: minutes(to),
-                }
-            }
-            _ => self,
+        let before = self.first;
+        let first = first_of(before, span_break(self.end, place, x));
+        let to = x.end;
+        Judgement {
+            first,
+            end: minutes(to),
         }
     }
 
@@ -69,8 +66,11 @@ impl Judgement {
     pub fn item(self, m: Manner, a: Item, place: usize) -> Judgement
         ensures { λ r. ⌜ r ≡ breaks.withItem m self (a, place) ⌝ }
     {
-        match m {
-            Manner::House => self.house_item(a, place),
+        match a {
+            Item::Times(x) => match m {
+                Manner::House => self.span(x, place),
+                _ => self,
+            },
             _ => self,
         }
     }
