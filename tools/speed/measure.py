@@ -46,9 +46,9 @@ class Meter:
         subprocess.run(command, stdout=subprocess.DEVNULL, check=True)
         return time.perf_counter() - begin
 
-    def each(self, words, path, few, many, behind=()):
+    def each(self, words, path, few, many, after=()):
         """instructions of one reading; words is the command before the file and the rounds"""
-        counts = [self.instructions([*words, path, str(n), *behind]) for n in (few, many)]
+        counts = [self.instructions([*words, path, str(n), *after]) for n in (few, many)]
         return (counts[1] - counts[0]) / ((many - few) * len(lines_of(path)))
 
     def best(self, words, path, few, many, tries=9):
@@ -56,9 +56,9 @@ class Meter:
         times = [min(self.seconds([*words, path, str(n)]) for _ in range(tries)) for n in (few, many)]
         return (times[1] - times[0]) / ((many - few) * len(lines_of(path)))
 
-    def row(self, name, words, sheets, behind=()):
+    def row(self, name, words, sheets, after=()):
         """writes what one reading of each sheet costs, and returns the most that a byte costs by what it costs in the first"""
-        costs = [self.each(words, self.file_of(sheet), 1, 11, behind) for sheet in sheets]
+        costs = [self.each(words, self.file_of(sheet), 1, 11, after) for sheet in sheets]
         most = max(c / len(s) for c, s in zip(costs, sheets)) * len(sheets[0]) / costs[0]
         print(f"| {name} | " + " | ".join(f"{c:,.0f}" for c in costs) + f" | {most:.2f} times |", flush=True)
         return most

@@ -22,7 +22,7 @@ typedef struct {
 
 typedef struct { int kind, value, odd; } Name;   /* odd: not written as it should be */
 
-/* ---- bytes, numbers, names: each takes a place and returns the one behind, or NULL */
+/* ---- bytes, numbers, names: each takes a place and returns the one after, or NULL */
 
 static inline int at(const Reader *r, Place p) { return p < r->end ? *p : 0; }
 
@@ -57,7 +57,7 @@ static Place number(const Reader *r, Place p, int least, int most, int *n)
     return at(r, q) == ':' && is_digit(at(r, q + 1)) ? NULL : p;
 }
 
-/* `letters` stand behind the first two, in any case */
+/* `letters` stand after the first two, in any case */
 static inline Place rest(const Reader *r, Place p, const char *letters, int n)
 {
     if (r->end - p < n)
@@ -191,7 +191,7 @@ static inline int day_clock(const Time *t) { return t->minute <= 59 && (t->hour 
 
 static inline int minutes_of(const Time *t) { int n = t->hour * 60 + t->minute; return t->less ? -n : n; }
 
-static int span_behind(Reader *r, Place *c, Place p, const Time *a)
+static int span_after(Reader *r, Place *c, Place p, const Time *a)
 {
     Time b = {0, 0, 24, 0};
     int repeat = -1, open = 0, alone = 0, good = 1, n, m;
@@ -226,7 +226,7 @@ static int times(Reader *r, Place *c)
 {
     Time a;
     Place p = time_at(r, *c, &a);
-    return p ? span_behind(r, c, p, &a) : MISSING;
+    return p ? span_after(r, c, p, &a) : MISSING;
 }
 
 /* ---- weekdays, holidays, offsets */
@@ -248,7 +248,7 @@ static Place day_offset(const Reader *r, Place p, int *days)
 
 static inline int good_days(int n) { return -32767 <= n && n <= 32767; }
 
-/* entries up to `]`: p behind it, or NULL */
+/* entries up to `]`: p after it, or NULL */
 static Place entries(const Reader *r, Place p, int *starts, int *ends, int *good)
 {
     int n, m;
@@ -274,7 +274,7 @@ static Place entries(const Reader *r, Place p, int *starts, int *ends, int *good
     }
 }
 
-static int weekday_behind(Reader *r, Place *c, Place p, int first)
+static int weekday_after(Reader *r, Place *c, Place p, int first)
 {
     int last = first, days = 0, starts = 0, ends = 0, good = 1, n;
     Place q;
@@ -296,7 +296,7 @@ static int weekday_behind(Reader *r, Place *c, Place p, int first)
     return GOT;
 }
 
-static int holiday_behind(Reader *r, Place *c, Place p, int kind)
+static int holiday_after(Reader *r, Place *c, Place p, int kind)
 {
     int days;
     p = day_offset(r, p, &days);
@@ -321,7 +321,7 @@ static Place range(const Reader *r, Place p, int least, int most, int *last, int
     return p;
 }
 
-static int year_behind(Reader *r, Place *c, Place p, int first)
+static int year_after(Reader *r, Place *c, Place p, int first)
 {
     int last = first, step = 1;
     if (at(r, p) == '+')
@@ -356,8 +356,8 @@ static int weeks(Reader *r, Place *c)
 
 typedef struct { int form, year, month, day, nth, wday, days; } Date;
 
-/* behind a name of a date; the year is set */
-static Place day_behind(Reader *r, Place p, const Name *w, Date *d)
+/* after a name of a date; the year is set */
+static Place day_after(Reader *r, Place p, const Name *w, Date *d)
 {
     int n;
     Place q;
@@ -427,7 +427,7 @@ static void bare_end(const Date *a, Date *b)
         b->month = 1, b->year += a->year != 0;
 }
 
-static int dates_behind(Reader *r, Place *c, Place p, Date *a, int given)
+static int dates_after(Reader *r, Place *c, Place p, Date *a, int given)
 {
     enum { NONE, OPEN, UNTIL, BARE } end = NONE;
     Date b = {0};
@@ -439,7 +439,7 @@ static int dates_behind(Reader *r, Place *c, Place p, Date *a, int given)
         end = OPEN, p++;
     } else if (at(r, p) == '-') {
         q = optional_year(r, p + 1, &b.year, &b_given);
-        if ((q = name(r, q, &w)) && (q = day_behind(r, q, &w, &b)))
+        if ((q = name(r, q, &w)) && (q = day_after(r, q, &w, &b)))
             end = UNTIL, p = offset(r, q, &b);
         else if ((q = number(r, p + 1, 1, 2, &n)))
             end = BARE, b.day = n, p = offset(r, q, &b);
@@ -466,14 +466,14 @@ static int dates_behind(Reader *r, Place *c, Place p, Date *a, int given)
     return GOT;
 }
 
-/* behind the first name of a month day */
-static int month_day_behind(Reader *r, Place *c, Place p, int year, int given, const Name *w)
+/* after the first name of a month day */
+static int month_day_after(Reader *r, Place *c, Place p, int year, int given, const Name *w)
 {
     Date a;
     a.year = year;
-    Place q = day_behind(r, p, w, &a);
+    Place q = day_after(r, p, w, &a);
     if (q)
-        return dates_behind(r, c, q, &a, given);
+        return dates_after(r, c, q, &a, given);
     if (w->kind != MONTH)
         return MISSING;
     int last = w->value, n;
@@ -491,7 +491,7 @@ static int month_day(Reader *r, Place *c)
     int year, given;
     Name w;
     Place p = optional_year(r, *c, &year, &given);
-    return (p = name(r, p, &w)) ? month_day_behind(r, c, p, year, given, &w) : MISSING;
+    return (p = name(r, p, &w)) ? month_day_after(r, c, p, year, given, &w) : MISSING;
 }
 
 /* ---- rules: what was read last decides what may follow */
@@ -507,15 +507,15 @@ static inline int done(int k, Stage *x, Stage y)
     return k;
 }
 
-/* a day of a list, behind its name; both: the list may go on with the other kind */
+/* a day of a list, after its name; both: the list may go on with the other kind */
 static int day(Reader *r, Place *c, Place p, const Name *w, Stage *x)
 {
     if (w->kind == WEEKDAY && *x != LAST_HOLIDAYS) {
         r->warnings += w->odd;
-        return done(weekday_behind(r, c, p, w->value), x, *x == HOLIDAYS || *x == LAST_WEEKDAYS ? LAST_WEEKDAYS : WEEKDAYS);
+        return done(weekday_after(r, c, p, w->value), x, *x == HOLIDAYS || *x == LAST_WEEKDAYS ? LAST_WEEKDAYS : WEEKDAYS);
     }
     if (w->kind == HOLIDAY && *x != LAST_WEEKDAYS)
-        return done(holiday_behind(r, c, p, w->value), x, *x == WEEKDAYS || *x == LAST_HOLIDAYS ? LAST_HOLIDAYS : HOLIDAYS);
+        return done(holiday_after(r, c, p, w->value), x, *x == WEEKDAYS || *x == LAST_HOLIDAYS ? LAST_HOLIDAYS : HOLIDAYS);
     return MISSING;
 }
 
@@ -535,11 +535,11 @@ static int first(Reader *r, Place *c, Place p, Stage *x, Stage widest)
         case EVENT: {
             Time a = {w.value, 0, 0, 0};
             r->warnings += w.odd;
-            return done(span_behind(r, c, q, &a), x, TIMES);
+            return done(span_after(r, c, q, &a), x, TIMES);
         }
         case MONTH:
         case EASTER:
-            return widest > MONTH_DAYS ? MISSING : done(month_day_behind(r, c, q, 0, 0, &w), x, MONTH_DAYS);
+            return widest > MONTH_DAYS ? MISSING : done(month_day_after(r, c, q, 0, 0, &w), x, MONTH_DAYS);
         case WEEK:
             if (widest > WEEKS)
                 return MISSING;
@@ -552,11 +552,11 @@ static int first(Reader *r, Place *c, Place p, Stage *x, Stage widest)
     if (widest <= MONTH_DAYS && (q = number(r, p, 4, 4, &n))) {
         Place b = blank(r, q), e;
         if (b && (e = name(r, b, &w))) {
-            int k = month_day_behind(r, c, e, n, 1, &w);
+            int k = month_day_after(r, c, e, n, 1, &w);
             if (k != MISSING)
                 return done(k, x, MONTH_DAYS);
         }
-        return widest <= YEARS ? done(year_behind(r, c, q, n), x, YEARS) : MISSING;
+        return widest <= YEARS ? done(year_after(r, c, q, n), x, YEARS) : MISSING;
     }
     return done(times(r, c), x, TIMES);
 }
@@ -565,10 +565,10 @@ static int year_item(Reader *r, Place *c)
 {
     int n;
     Place p = number(r, *c, 4, 4, &n);
-    return p ? year_behind(r, c, p, n) : MISSING;
+    return p ? year_after(r, c, p, n) : MISSING;
 }
 
-/* behind a comma */
+/* after a comma */
 static int listed(Reader *r, Place *c, Stage *x)
 {
     Name w;
@@ -582,7 +582,7 @@ static int listed(Reader *r, Place *c, Stage *x)
     }
 }
 
-/* one item more behind what was read last */
+/* one item more after what was read last */
 static int more(Reader *r, Place *c, Stage *x)
 {
     Place p = *c, q;
@@ -633,7 +633,7 @@ static Place modifier(Reader *r, Place p, int *state, Comment *k)
     return comment(r, p, k);
 }
 
-/* a rule at *c: GOT and the place behind it, or a refusal */
+/* a rule at *c: GOT and the place after it, or a refusal */
 static int rule(Reader *r, Place *c, int separator)
 {
     Place p = *c, q, e;

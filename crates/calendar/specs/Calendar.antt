@@ -1,4 +1,4 @@
--- The Gregorian calendar: leap years, the last day of a month, and which days there are. Year 0 stands for no year.
+-- The Gregorian calendar: leap years, the last day of a month, and which days there are. Year 0 stands for no year (docs/RULES.md, 4).
 use Prim.Native.Nat.{ℕ, _%_}
 use mathlib.Core.Bool.{Bool, not, _&&_, _||_}
 use lib.Dec.{eqb}

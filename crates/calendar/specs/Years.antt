@@ -1,4 +1,4 @@
--- What is proved of the calendar besides, in other words than its definition: which years are leap years, and how many days a year has.
+-- What is proved of the calendar besides, in other words than its definition: which years are leap years, and how many days a year has (docs/RULES.md, 4).
 use Prim.Native.Nat.{ℕ, _+_, _*_, _≤_}
 use mathlib.Core.Bool.{true}
 use mathlib.Core.Logic.{_⊎_, _↔_}

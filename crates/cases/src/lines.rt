@@ -26,7 +26,7 @@ fn read_byte() -> ByteRead {
     }
 }
 
-// The bytes up to byte 10, or as many as the space holds. What stands behind the last byte 10 is no line.
+// The bytes up to byte 10, or as many as the space holds. What stands after the last byte 10 is no line.
 pub fn read_line(space: &mut [u8]) -> LineRead
     ensures { λ r. ⌜ r .bytes ≤ length (now (space .exit)) ⌝ }
 {

@@ -5,7 +5,7 @@ use sheet::note;
 // Starts and lengths that are tried.
 const NUMBERS: [i32; 8] = [-2147483648, -1, 0, 1, 3, 5, 6, 2147483647];
 
-// The notes for one start and every length, `|` behind each, on a line.
+// The notes for one start and every length, `|` after each, on a line.
 fn run_start(s: &[u8], start: i32) {
     let mut k: usize = 0;
     while k < 8 {

@@ -20,7 +20,7 @@ pub fn fresh_table() -> [i32; 8192]
     [MARK; 8192]
 }
 
-// Whether the words of a table behind its first n records are as they were.
+// Whether the words of a table after its first n records are as they were.
 fn is_kept(table: &[i32], n: usize) -> bool {
     let mut i = table.len();
     while 0 < i {
@@ -35,7 +35,7 @@ fn is_kept(table: &[i32], n: usize) -> bool {
     true
 }
 
-// The records of an answer. A word behind them that was changed gives a line that no case expects.
+// The records of an answer. A word after them that was changed gives a line that no case expects.
 fn print_table(table: &[i32], n: usize) {
     print_records(table, n);
     if !is_kept(table, n) {
@@ -108,7 +108,7 @@ fn try_place(s: &[u8], place: usize) {
     }
 }
 
-// The places where a part begins: all from 0 to one behind the sheet's end are tried, and the largest.
+// The places where a part begins: all from 0 to one after the sheet's end are tried, and the largest.
 pub fn run_places(s: &[u8]) {
     io::write_all(STDOUT_FILENO, b"B");
     let mut place = 0;

@@ -11,7 +11,8 @@ use Rattle.calendar.specs.Calendar.{leap, isDay, lastOf}
 use Rattle.calendar.proofs.Months as calendar
 use Rattle.records.specs.declared.Day.the-variants.{Fixed}
 use Rattle.dates.specs.BareDays.{Ymd, ymd, Before, by-year, by-month, by-day, Fits, months, First, dated, yearless, EndsOn}
-use Rattle.dates.specs.Meanings.{goodYears, yearOf, dateOf, nextYear, yearMonth, nextMonth, monthFrom, firstWith, bareEnd}
+use Rattle.dates.specs.BareEnds.{dateOf, nextYear, yearMonth, nextMonth, monthFrom, firstWith, bareEnd}
+use Rattle.dates.specs.Meanings.{goodYears, yearOf}
 use Rattle.dates.specs.declared.Year.{Year}
 use Rattle.dates.specs.declared.Year.the-variants.{Absent, Given}
 
@@ -128,12 +129,19 @@ module _ (y m d e : ℕ) where
     -- what is found is the first
     first : {later : Bool} {n : ℕ} → Found later n → First start e (on later n)
     first (same p q) = first-is (on false m) refl q (omega arith) (omega arith) (λ _. p) not-earlier-than
-    first (passed p q r) = first-is (on false (suc m)) refl (then-there y m e lo hi one last q) (omega arith) (omega arith) (λ z. omega arith) (λ x f. omega (arith, not-in x f m lo hi q (not-earlier-than x f)))
+    first (passed p q r) =
+        first-is (on false (suc m)) refl (then-there y m e lo hi one last q) (omega arith) (omega arith) (λ z. omega arith) (λ x f. omega (
+          arith,
+          not-in x f m lo hi q
+              (not-earlier-than x f),
+        ))
     first (next p q r) = first-is (on false (suc m)) refl r (omega arith) (omega arith) (λ z. omega arith) (λ x f. omega (arith, not-there x f p))
     first (next-passed p q r) =
         first-is (on false (suc (suc m))) refl (then-there y (suc m) e (omega arith) (omega arith) one last r) (omega arith) (omega arith) (λ z. omega arith)
         (λ x f. omega (arith, not-in x f (suc m) (omega arith) (omega arith) r (omega (arith, not-there x f p))))
-    first (january p q) = first-is (on true 1) refl (calendar.day-there (suc y) 1 e (omega arith) (omega arith) one (omega (arith, calendar.january (suc y)))) (omega arith) (omega arith) (λ z. omega arith) (λ x f. omega (arith, not-there x f p))
+    first (january p q) =
+        first-is (on true 1) refl (calendar.day-there (suc y) 1 e (omega arith) (omega arith) one (omega (arith, calendar.january (suc y)))) (omega arith) (omega arith)
+        (λ z. omega arith) (λ x f. omega (arith, not-there x f p))
 
     -- and it is the end by the definition, in a year k whose months have the same days; the next year is k's
     module _ (k : ℕ) (alike : (n : ℕ) → isDay k n e ≡ isDay y n e) where

@@ -21,9 +21,10 @@ use Rattle.records.specs.declared.Item.the-variants.{Dates}
 use Rattle.records.specs.declared.Meant.the-variants.{Is, Refused}
 use Rattle.days.specs.Offsets.{goodDays}
 use Rattle.dates.specs.BareDays.{BareItem, BareDays}
-use Rattle.dates.specs.Dates.{optionalYear, nth, weekdayOf, dayOf, dayBehind, rawDate, date}
-use Rattle.dates.specs.Meanings.{goodDates, yearOf, dateOf, offsetOf, yearMonth, bareEnd, dateMeaning}
-use Rattle.dates.specs.MonthDays.{dateItemBehind, monthDayBehind, monthDayItem}
+use Rattle.dates.specs.Dates.{optionalYear, nth, weekdayOf, dayOf, dayAfter, rawDate, date}
+use Rattle.dates.specs.BareEnds.{dateOf, yearMonth, bareEnd}
+use Rattle.dates.specs.Meanings.{goodDates, yearOf, offsetOf, dateMeaning}
+use Rattle.dates.specs.MonthDays.{dateItemAfter, monthDayAfter, monthDayItem}
 use Rattle.dates.specs.declared.Year.{Year}
 use Rattle.dates.specs.declared.RawDate.{RawDate}
 use Rattle.dates.specs.declared.RawEnd.the-variants.{Bare}
@@ -44,9 +45,9 @@ day-of m h = then-finds (any blank) (λ _ _. or-finds (then-finds (any short) (�
     of-weekday : Finds InYear (weekdayOf m)
     of-weekday = then-finds (any (name weekday)) (λ w _. then-finds (any (sign "[")) (λ _ _. then-finds (any nth) (λ n _. then-finds (any (sign "]")) (λ _ _. pure-finds (Weekday m w n) tt))))
 
-day-behind : (w : Word) → monthRange w ≡ true → Finds InYear (dayBehind w)
-unfolding dayBehind
-day-behind w h = go (eqb (w .0) easter) (eqb (w .0) month) h
+day-after : (w : Word) → monthRange w ≡ true → Finds InYear (dayAfter w)
+unfolding dayAfter
+day-after w h = go (eqb (w .0) easter) (eqb (w .0) month) h
   where
     go : (t u : Bool) → (if u then within 1 12 (w .1) else true) ≡ true → Finds InYear (if t then pure Easter else if u then dayOf (w .1) else nothing)
     go true u h = pure-finds Easter tt
@@ -55,14 +56,14 @@ day-behind w h = go (eqb (w .0) easter) (eqb (w .0) month) h
 
 date-in-year : Finds (λ r. InYear (r .day)) date
 unfolding date
-date-in-year = then-finds (any optionalYear) (λ y _. then-finds word-month (λ w h. then-finds (day-behind w h) (λ d k. pure-finds (rawDate y d) k)))
+date-in-year = then-finds (any optionalYear) (λ y _. then-finds word-month (λ w h. then-finds (day-after w h) (λ d k. pure-finds (rawDate y d) k)))
 
 -- where a date stands, the item is a date item
-date-item : (s : List ℕ) (p : ℕ) (y : Year) (day : Day) (j : ℕ) → date s p ≡ got (rawDate y day) j → monthDayItem s p ≡ dateItemBehind p y day s j
-unfolding date monthDayItem monthDayBehind
-date-item s p y day j h = both s p _ _ _ (optionalYear s p) (λ z i e. both s i _ _ _ (word s i) (λ w k e. both s k _ _ _ (dayBehind w s k) (λ d l e. same z d l e) e) e) h
+date-item : (s : List ℕ) (p : ℕ) (y : Year) (day : Day) (j : ℕ) → date s p ≡ got (rawDate y day) j → monthDayItem s p ≡ dateItemAfter p y day s j
+unfolding date monthDayItem monthDayAfter
+date-item s p y day j h = both s p _ _ _ (optionalYear s p) (λ z i e. both s i _ _ _ (word s i) (λ w k e. both s k _ _ _ (dayAfter w s k) (λ d l e. same z d l e) e) e) h
   where
-    same : (z : Year) (d : Day) (l : ℕ) → _≡_ {A = Read RawDate} (got (rawDate z d) l) (got (rawDate y day) j) → dateItemBehind p z d s l ≡ dateItemBehind p y day s j
+    same : (z : Year) (d : Day) (l : ℕ) → _≡_ {A = Read RawDate} (got (rawDate z d) l) (got (rawDate y day) j) → dateItemAfter p z d s l ≡ dateItemAfter p y day s j
     same z d l e =
         let r : rawDate z d ≡ rawDate y day = cc in
         let k : l ≡ j = cc in
@@ -70,14 +71,14 @@ date-item s p y day j h = both s p _ _ _ (optionalYear s p) (λ z i e. both s i 
 
 -- a date item that is accepted is good, and it ends as `bareEnd` says
 pub bare-days : BareDays
-unfolding dateMeaning dateItemBehind
+unfolding dateMeaning dateItemAfter
 bare-days s p y m d e b x q h = go (goodDates raw) refl (rw (date-item s p y (Fixed m d) (b .after) (b .start), b .rest) at h)
   where
     raw : RawDates
     raw = record { date = rawDate y (Fixed m d); offset = b .offset; end = Bare e (b .offset-end) }
 
     span : DateSpan
-    span = record { start = dateOf (yearOf y) (Fixed m d); before = offsetOf (b .offset); end = bareEnd (yearMonth (yearOf y) m) d e; behind = offsetOf (b .offset-end) }
+    span = record { start = dateOf (yearOf y) (Fixed m d); «start_offset» = offsetOf (b .offset); end = bareEnd (yearMonth (yearOf y) m) d e; «end_offset» = offsetOf (b .offset-end) }
 
     go : (t : Bool) → goodDates raw ≡ t → judged p (if not t then Refused 4 else Is (Dates span)) s (b .next) ≡ got x q → BareItem y m d e x
     go true g k =

@@ -18,12 +18,12 @@ use Rattle.records.specs.declared.Item.{Item}
 use Rattle.records.proofs.Cut.{Alike, Refuses, refuses-if, meant-alike, item-alike}
 use Rattle.days.proofs.Cut.{offset-alike}
 use Rattle.dates.specs.Ranges.{stepped, untilLast, goodRange}
-use Rattle.dates.specs.Years.{yearBehind, yearShape, yearMeaning, yearItem}
+use Rattle.dates.specs.Years.{yearAfter, yearShape, yearMeaning, yearItem}
 use Rattle.dates.specs.Weeks.{weekShape, weekMeaning, weekItem}
-use Rattle.dates.specs.Dates.{optionalYear, backNth, frontNth, nth, weekdayOf, dayOf, dayBehind, date, rawDate}
-use Rattle.dates.specs.Ends.{untilDate, bareDay, until, endShape, datesBehind}
+use Rattle.dates.specs.Dates.{optionalYear, backNth, frontNth, nth, weekdayOf, dayOf, dayAfter, date, rawDate}
+use Rattle.dates.specs.Ends.{untilDate, bareDay, until, endShape, datesAfter}
 use Rattle.dates.specs.Meanings.{dateMeaning, monthMeaning}
-use Rattle.dates.specs.MonthDays.{lastMonth, monthBehind, monthItemBehind, dateItemBehind, monthDayBehind, monthDayItem}
+use Rattle.dates.specs.MonthDays.{lastMonth, monthAfter, monthItemAfter, dateItemAfter, monthDayAfter, monthDayItem}
 use Rattle.dates.specs.declared.Year.{Year}
 use Rattle.dates.specs.declared.RawRange.{RawRange}
 use Rattle.dates.specs.declared.RawDate.{RawDate}
@@ -43,13 +43,13 @@ module _ {u : List ℕ} where
   unfolding untilLast
   untilLast-alike M first = then-local (byte-local 45 refl refl) (λ _. then-local (free M) (λ last. then-local stepped-alike (λ step. pure-local _)))
 
-  pub yearBehind-alike : (first : ℕ) → Alike u 0 (yearBehind first)
-  unfolding yearBehind
-  yearBehind-alike first = or-local (free (then-local (byte-local 43 refl refl) (λ _. pure-local _))) (or-local (free (untilLast-alike year-local first)) (pure-local _))
+  pub yearAfter-alike : (first : ℕ) → Alike u 0 (yearAfter first)
+  unfolding yearAfter
+  yearAfter-alike first = or-local (free (then-local (byte-local 43 refl refl) (λ _. pure-local _))) (or-local (free (untilLast-alike year-local first)) (pure-local _))
 
   pub yearShape-alike : Alike u 4 yearShape
   unfolding yearShape
-  yearShape-alike = then-local year-local yearBehind-alike
+  yearShape-alike = then-local year-local yearAfter-alike
 
   pub weekShape-alike : Alike u 1 weekShape
   unfolding weekShape
@@ -81,13 +81,13 @@ module _ {u : List ℕ} where
   unfolding dayOf
   dayOf-alike m = then-local blank-local (λ _. free (or-local (then-local short-local (λ d. pure-local _)) (weekdayOf-alike m)))
 
-  pub dayBehind-alike : (w : Word) → Alike u 0 (dayBehind w)
-  unfolding dayBehind
-  dayBehind-alike w = if-alike (eqb (w .0) easter) (pure-local Easter) (if-alike (eqb (w .0) month) (free (dayOf-alike (w .1))) nothing-local)
+  pub dayAfter-alike : (w : Word) → Alike u 0 (dayAfter w)
+  unfolding dayAfter
+  dayAfter-alike w = if-alike (eqb (w .0) easter) (pure-local Easter) (if-alike (eqb (w .0) month) (free (dayOf-alike (w .1))) nothing-local)
 
   pub date-alike : Alike u 1 date
   unfolding date
-  date-alike = loose (bind-local optionalYear-alike (λ y. then-local word-local (λ w. then-local (dayBehind-alike w) (λ d. pure-local _)))) (omega arith)
+  date-alike = loose (bind-local optionalYear-alike (λ y. then-local word-local (λ w. then-local (dayAfter-alike w) (λ d. pure-local _)))) (omega arith)
 
   pub untilDate-alike : Alike u 1 untilDate
   unfolding untilDate
@@ -105,17 +105,17 @@ module _ {u : List ℕ} where
   unfolding endShape
   endShape-alike = or-local (free (then-local (byte-local 43 refl refl) (λ _. pure-local _))) (or-local (free (then-local (byte-local 45 refl refl) (λ _. free until-alike))) (pure-local _))
 
-  pub datesBehind-alike : (d : RawDate) → Alike u 0 (datesBehind d)
-  unfolding datesBehind
-  datesBehind-alike d = then-local offset-alike (λ o. then-local endShape-alike (λ e. pure-local _))
+  pub datesAfter-alike : (d : RawDate) → Alike u 0 (datesAfter d)
+  unfolding datesAfter
+  datesAfter-alike d = then-local offset-alike (λ o. then-local endShape-alike (λ e. pure-local _))
 
   pub lastMonth-alike : (first : ℕ) → Alike u 0 (lastMonth first)
   unfolding lastMonth
   lastMonth-alike first = maybe-local (then-local (byte-local 45 refl refl) (λ _. free (name-local month))) first
 
-  pub monthBehind-alike : (y : Year) (first : ℕ) → Alike u 0 (monthBehind y first)
-  unfolding monthBehind
-  monthBehind-alike y first = then-local (lastMonth-alike first) (λ last. pure-local _)
+  pub monthAfter-alike : (y : Year) (first : ℕ) → Alike u 0 (monthAfter y first)
+  unfolding monthAfter
+  monthAfter-alike y first = then-local (lastMonth-alike first) (λ last. pure-local _)
 
 -- the refusals of years and weeks have numbers
 pub year-refuses : (r : RawRange) → Refuses (yearMeaning r)
@@ -137,20 +137,20 @@ weekItem-alike = item-alike weekShape-alike weekMeaning week-refuses
 
 -- the items of a month-day list, p being where each begins
 module _ {u : List ℕ} where
-  pub monthItemBehind-alike : (p : ℕ) (y : Year) (w : Word) → LocalFrom p Stop keep u false false 0 (monthItemBehind (length u + p) y w) (monthItemBehind p y w)
-  unfolding monthItemBehind
-  monthItemBehind-alike p y w = then-local (only-local (eqb (w .0) month)) (λ _. meant-alike (monthBehind-alike y (w .1)) monthMeaning month-refuses p)
+  pub monthItemAfter-alike : (p : ℕ) (y : Year) (w : Word) → LocalFrom p Stop keep u false false 0 (monthItemAfter (length u + p) y w) (monthItemAfter p y w)
+  unfolding monthItemAfter
+  monthItemAfter-alike p y w = then-local (only-local (eqb (w .0) month)) (λ _. meant-alike (monthAfter-alike y (w .1)) monthMeaning month-refuses p)
 
-  pub dateItemBehind-alike : (p : ℕ) (y : Year) (d : Day) → LocalFrom p Stop keep u false false 0 (dateItemBehind (length u + p) y d) (dateItemBehind p y d)
-  unfolding dateItemBehind
-  dateItemBehind-alike p y d = meant-alike (datesBehind-alike (rawDate y d)) dateMeaning date-refuses p
+  pub dateItemAfter-alike : (p : ℕ) (y : Year) (d : Day) → LocalFrom p Stop keep u false false 0 (dateItemAfter (length u + p) y d) (dateItemAfter p y d)
+  unfolding dateItemAfter
+  dateItemAfter-alike p y d = meant-alike (datesAfter-alike (rawDate y d)) dateMeaning date-refuses p
 
-  pub monthDayBehind-alike : (p : ℕ) (y : Year) (w : Word) → LocalFrom p Stop keep u false false 0 (monthDayBehind (length u + p) y w) (monthDayBehind p y w)
-  unfolding monthDayBehind
-  monthDayBehind-alike p y w = branch-local {k = 0} {l = 0} (dayBehind-alike w) (dateItemBehind-alike p y) (monthItemBehind-alike p y w)
+  pub monthDayAfter-alike : (p : ℕ) (y : Year) (w : Word) → LocalFrom p Stop keep u false false 0 (monthDayAfter (length u + p) y w) (monthDayAfter p y w)
+  unfolding monthDayAfter
+  monthDayAfter-alike p y w = branch-local {k = 0} {l = 0} (dayAfter-alike w) (dateItemAfter-alike p y) (monthItemAfter-alike p y w)
 
   pub monthDayItem-alike : Alike u 1 monthDayItem
   unfolding monthDayItem
   monthDayItem-alike =
-      let f : ℕ → Reader Item = λ p. optionalYear >>= λ y. word >>= λ w. monthDayBehind p y w in
-      here-then f f (λ p. bind-local optionalYear-alike (λ y. then-local word-local (monthDayBehind-alike p y)))
+      let f : ℕ → Reader Item = λ p. optionalYear >>= λ y. word >>= λ w. monthDayAfter p y w in
+      here-then f f (λ p. bind-local optionalYear-alike (λ y. then-local word-local (monthDayAfter-alike p y)))

@@ -8,7 +8,7 @@ use Rattle.names.specs.Tests.{within}
 use Rattle.names.specs.Read.{Read, got, none, refused, one, ahead}
 use Rattle.names.specs.Chain.{chainIn, chain, many, skip}
 use Rattle.names.specs.Texts.{bytes, byte, allOf, blanks, blank}
-use Rattle.names.specs.Numbers.{isDigit, digit, upTo, digits, clockBehind, number}
+use Rattle.names.specs.Numbers.{isDigit, digit, upTo, digits, clockAfter, number}
 use Rattle.names.specs.Names.{names, spelledSo, lower, letter, firstOf, word, name}
 use Rattle.calendar.specs.Calendar.{leap, lastOfFebruary, hasThirty, lastOf, isDay}
 use Rattle.records.specs.Items.{signed}
@@ -20,12 +20,13 @@ use Rattle.records.specs.declared.Item.{Item}
 use Rattle.records.specs.declared.Item.the-variants.{Years, Months, Dates, Weeks}
 use Rattle.days.specs.Offsets.{plusOrMinus, dayOffset, anyDays, wdayOffset, offset}
 use Rattle.dates.specs.Ranges.{stepped, untilLast, goodRange, stepOf}
-use Rattle.dates.specs.Years.{yearBehind, yearShape, yearMeaning, yearItem}
+use Rattle.dates.specs.Years.{yearAfter, yearShape, yearMeaning, yearItem}
 use Rattle.dates.specs.Weeks.{weekShape, weekMeaning, weekItem}
-use Rattle.dates.specs.Dates.{optionalYear, backNth, frontNth, nth, weekdayOf, dayOf, dayBehind, date}
-use Rattle.dates.specs.Ends.{untilDate, bareDay, until, endShape, datesBehind}
-use Rattle.dates.specs.Meanings.{dateOf, noOffset, nextYear, nextMonth, monthFrom, firstWith, bareEnd, lastDay, dateMeaning, monthMeaning}
-use Rattle.dates.specs.MonthDays.{lastMonth, monthBehind, monthItemBehind, dateItemBehind, monthDayBehind, monthDayItem}
+use Rattle.dates.specs.Dates.{optionalYear, backNth, frontNth, nth, weekdayOf, dayOf, dayAfter, date}
+use Rattle.dates.specs.Ends.{untilDate, bareDay, until, endShape, datesAfter}
+use Rattle.dates.specs.BareEnds.{dateOf, nextYear, nextMonth, monthFrom, firstWith, bareEnd, lastDay}
+use Rattle.dates.specs.Meanings.{noOffset, dateMeaning, monthMeaning}
+use Rattle.dates.specs.MonthDays.{lastMonth, monthAfter, monthItemAfter, dateItemAfter, monthDayAfter, monthDayItem}
 
 -- years and weeks from first to last, each step'th
 years : ℕ → ℕ → ℕ → Item
@@ -59,7 +60,7 @@ yearTexts =
     ∷ []
 
 years-right : map (λ e. yearItem (bytes (e .0)) (e .1 .0)) yearTexts ≡ map (λ e. e .1 .1) yearTexts
-unfolding yearTexts years yearItem yearShape yearBehind untilLast stepped yearMeaning goodRange stepOf number digits upTo digit isDigit within clockBehind skip many chain chainIn byte one ahead
+unfolding yearTexts years yearItem yearShape yearAfter untilLast stepped yearMeaning goodRange stepOf number digits upTo digit isDigit within clockAfter skip many chain chainIn byte one ahead
 years-right = refl
 
 -- the same for weeks: 4 before 5 before 7
@@ -83,7 +84,7 @@ weekTexts =
     ∷ []
 
 weeks-right : map (λ e. weekItem (bytes (e .0)) (e .1 .0)) weekTexts ≡ map (λ e. e .1 .1) weekTexts
-unfolding weekTexts weeks weekItem weekShape untilLast stepped weekMeaning goodRange stepOf number digits upTo digit isDigit within clockBehind skip many chain chainIn byte one ahead
+unfolding weekTexts weeks weekItem weekShape untilLast stepped weekMeaning goodRange stepOf number digits upTo digit isDigit within clockAfter skip many chain chainIn byte one ahead
 weeks-right = refl
 
 -- months of a year or of each, from first to last
@@ -100,12 +101,13 @@ by wday days = record { wday = wday; days = days }
 
 -- dates from one to another, with their offsets, and with none
 moved : Date → DateOffset → Date → DateOffset → Item
-moved start before end behind = Dates (record { start = start; before = before; end = end; behind = behind })
+moved start before end after = Dates (record { start = start; «start_offset» = before; end = end; «end_offset» = after })
 
 dates : Date → Date → Item
 dates start end = moved start noOffset end noOffset
 
--- the same for month days: an equal day stays and only January moves the year; the end is a day of the calendar; 4 before 9; a sign and a weekday are the offset; the written day is compared; after a weekday date the month and year stay
+-- the same for month days: an equal day stays and only January moves the year; the end is a day of the calendar; 4 before 9; a sign and a weekday are the offset; the written day
+-- is compared; after a weekday date the month and year stay
 monthDayTexts : List (String × (ℕ × Read Item))
 monthDayTexts =
     ("2020 Dec 25-05", (0, got (dates (on 2020 12 25) (on 2021 1 5)) 14))
@@ -133,5 +135,8 @@ monthDayTexts =
     ∷ []
 
 month-days-right : map (λ e. monthDayItem (bytes (e .0)) (e .1 .0)) monthDayTexts ≡ map (λ e. e .1 .1) monthDayTexts
-unfolding monthDayTexts months on by moved dates monthDayItem monthDayBehind dateItemBehind monthItemBehind monthBehind lastMonth monthMeaning dateMeaning lastDay bareEnd firstWith monthFrom nextMonth nextYear isDay lastOf lastOfFebruary hasThirty leap datesBehind endShape until bareDay untilDate date dayBehind dayOf weekdayOf nth frontNth backNth optionalYear offset wdayOffset anyDays dayOffset plusOrMinus name word firstOf names allOf letter spelledSo lower number digits upTo digit isDigit within clockBehind skip many chain chainIn blank blanks byte one ahead
+unfolding monthDayTexts months on by moved dates monthDayItem monthDayAfter dateItemAfter monthItemAfter monthAfter lastMonth monthMeaning dateMeaning lastDay bareEnd firstWith
+    monthFrom nextMonth nextYear isDay lastOf lastOfFebruary hasThirty leap datesAfter endShape until bareDay untilDate date dayAfter dayOf weekdayOf nth frontNth backNth
+    optionalYear offset wdayOffset anyDays dayOffset plusOrMinus name word firstOf names allOf letter spelledSo lower number digits upTo digit isDigit within clockAfter skip many
+    chain chainIn blank blanks byte one ahead
 month-days-right = refl

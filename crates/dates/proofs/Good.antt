@@ -8,7 +8,8 @@ use Rattle.names.specs.Tests.{if_then_else_, within}
 use Rattle.names.proofs.Laws.{within-range}
 use Rattle.days.specs.Offsets.{goodDays}
 use Rattle.days.specs.declared.RawOffset.{RawOffset}
-use Rattle.dates.specs.Meanings.{goodYears, goodDay, goodDate, goodEnd, goodDates, yearOf, nextYear, yearMonth, nextMonth, monthFrom}
+use Rattle.dates.specs.BareEnds.{nextYear, yearMonth, nextMonth, monthFrom}
+use Rattle.dates.specs.Meanings.{goodYears, goodDay, goodDate, goodEnd, goodDates, yearOf}
 use Rattle.dates.specs.declared.Year.{Year}
 use Rattle.dates.specs.declared.Year.the-variants.{Absent, Given}
 use Rattle.dates.specs.declared.YearMonth.{YearMonth}

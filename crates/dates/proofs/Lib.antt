@@ -4,5 +4,5 @@ pub mod Meant
 pub mod Cut
 pub mod BareDay
 pub mod BareItems
-pub mod Apart
+pub mod OneAnswer
 pub mod Examples

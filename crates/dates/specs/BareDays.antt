@@ -12,8 +12,9 @@ use Rattle.records.specs.declared.Item.{Item}
 use Rattle.records.specs.declared.Item.the-variants.{Dates}
 use Rattle.days.specs.declared.RawOffset.{RawOffset}
 use Rattle.dates.specs.Dates.{rawDate, date}
-use Rattle.dates.specs.Ends.{datesBehind}
-use Rattle.dates.specs.Meanings.{yearOf, dateOf}
+use Rattle.dates.specs.Ends.{datesAfter}
+use Rattle.dates.specs.BareEnds.{dateOf}
+use Rattle.dates.specs.Meanings.{yearOf}
 use Rattle.dates.specs.MonthDays.{monthDayItem}
 use Rattle.dates.specs.declared.Year.{Year}
 use Rattle.dates.specs.declared.Year.the-variants.{Absent, Given}
@@ -69,7 +70,7 @@ pub record BareRead (s : List ℕ) (p : ℕ) (y : Year) (m d e : ℕ) : Type 0 w
   pub offset : RawOffset
   pub offset-end : RawOffset
   pub start : date s p ≡ got (rawDate y (Fixed m d)) after
-  pub rest : datesBehind (rawDate y (Fixed m d)) s after ≡ got (record { date = rawDate y (Fixed m d); offset = offset; end = Bare e offset-end }) next
+  pub rest : datesAfter (rawDate y (Fixed m d)) s after ≡ got (record { date = rawDate y (Fixed m d); offset = offset; end = Bare e offset-end }) next
 
 -- the item that such a text is read as
 pub record BareItem (y : Year) (m d e : ℕ) (x : Item) : Type 0 where

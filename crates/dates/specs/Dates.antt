@@ -1,4 +1,4 @@
--- Date: [`YYYY` blank] then `easter`, `Mon` blank `D`, or `Mon` blank `Wd[n]` or `Wd[-n]`.
+-- Date: [`YYYY` blank] then `easter`, `Mon` blank `D`, or `Mon` blank `Wd[n]` or `Wd[-n]` (docs/RULES.md, 2).
 use Prim.Native.Nat.{ℕ}
 use mathlib.Core.Bool.{true, false}
 use lib.Dec.{eqb}
@@ -36,7 +36,7 @@ frontNth = do
 unfoldable pub nth : Reader Signed
 nth = backNth or frontNth
 
--- behind a month and a blank: `Wd[n]` or `Wd[-n]`
+-- after a month and a blank: `Wd[n]` or `Wd[-n]`
 unfoldable pub weekdayOf : ℕ → Reader Day
 weekdayOf m = do
   w ← name weekday
@@ -45,15 +45,15 @@ weekdayOf m = do
   sign "]"
   pure (Weekday m w n)
 
--- behind a month: a blank, and `D` or a weekday
+-- after a month: a blank, and `D` or a weekday
 unfoldable pub dayOf : ℕ → Reader Day
 dayOf m = do
   blank
   (do d ← short; pure (Fixed m d)) or weekdayOf m
 
--- behind a name: nothing more behind `easter`, a day behind a month
-unfoldable pub dayBehind : Word → Reader Day
-dayBehind w =
+-- after a name: nothing more after `easter`, a day after a month
+unfoldable pub dayAfter : Word → Reader Day
+dayAfter w =
     if eqb (w .0) easter then pure Easter
     else if eqb (w .0) month then dayOf (w .1)
     else nothing
@@ -67,5 +67,5 @@ unfoldable pub date : Reader RawDate
 date = do
   y ← optionalYear
   w ← word
-  d ← dayBehind w
+  d ← dayAfter w
   pure (rawDate y d)

@@ -1,4 +1,4 @@
--- Date item: date[offset], then nothing, `+`, or `-` and an end, which is a date or a bare `D`, with [offset].
+-- Date item: date[offset], then nothing, `+`, or `-` and an end, which is a date or a bare `D`, with [offset] (docs/RULES.md, 2).
 use Prim.Native.Nat.{ℕ}
 use Rattle.names.specs.Read.{Reader, pure, _>>=_, _>>_, _or_}
 use Rattle.names.specs.Texts.{sign}
@@ -10,14 +10,14 @@ use Rattle.dates.specs.declared.RawEnd.{RawEnd}
 use Rattle.dates.specs.declared.RawEnd.the-variants.{Nothing, Plus, Until, Bare}
 use Rattle.dates.specs.declared.RawDates.{RawDates}
 
--- behind `-`: a date, with [offset]
+-- after `-`: a date, with [offset]
 unfoldable pub untilDate : Reader RawEnd
 untilDate = do
   d ← date
   o ← offset
   pure (Until d o)
 
--- behind `-`: a bare `D`, with [offset]
+-- after `-`: a bare `D`, with [offset]
 unfoldable pub bareDay : Reader RawEnd
 bareDay = do
   d ← short
@@ -32,9 +32,9 @@ until = untilDate or bareDay
 unfoldable pub endShape : Reader RawEnd
 endShape = (do sign "+"; pure Plus) or (do sign "-"; until) or pure Nothing
 
--- the shape of a date item behind its date
-unfoldable pub datesBehind : RawDate → Reader RawDates
-datesBehind d = do
+-- the shape of a date item after its date
+unfoldable pub datesAfter : RawDate → Reader RawDates
+datesAfter d = do
   o ← offset
   e ← endShape
   pure (record { date = d; offset = o; end = e })

@@ -3,6 +3,7 @@ pub mod Years
 pub mod Weeks
 pub mod Dates
 pub mod Ends
+pub mod BareEnds
 pub mod Meanings
 pub mod MonthDays
 pub mod Seen

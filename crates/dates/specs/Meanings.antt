@@ -1,10 +1,8 @@
--- What dates and months mean.
-use Prim.Native.Nat.{ℕ, suc}
+-- What dates and months mean (docs/RULES.md, 4).
+use Prim.Native.Nat.{ℕ}
 use mathlib.Core.Bool.{Bool, true, false, _&&_, not}
-use lib.Dec.{leb, ltb, eqb}
 use Rattle.names.specs.Tests.{if_then_else_, within}
 use Rattle.names.specs.Refusals.{easterDay, range}
-use Rattle.calendar.specs.Calendar.{isDay}
 use Rattle.records.specs.Items.{signed}
 use Rattle.records.specs.declared.Day.{Day}
 use Rattle.records.specs.declared.Day.the-variants.{Fixed, Weekday, Easter}
@@ -16,9 +14,9 @@ use Rattle.records.specs.declared.Meant.the-variants.{Is, Refused}
 use Rattle.days.specs.Offsets.{goodDays, daysOf}
 use Rattle.days.specs.declared.RawOffset.{RawOffset}
 use Rattle.dates.specs.Years.{goodYear}
+use Rattle.dates.specs.BareEnds.{dateOf, yearMonth, bareEnd, lastDay}
 use Rattle.dates.specs.declared.Year.{Year}
 use Rattle.dates.specs.declared.Year.the-variants.{Absent, Given}
-use Rattle.dates.specs.declared.YearMonth.{YearMonth}
 use Rattle.dates.specs.declared.RawMonths.{RawMonths}
 use Rattle.dates.specs.declared.RawDate.{RawDate}
 use Rattle.dates.specs.declared.RawEnd.{RawEnd}
@@ -56,10 +54,6 @@ abbrev pub yearOf : Year → ℕ
 yearOf Absent = 0
 yearOf (Given y) = y
 
--- a date with its year or 0
-abbrev pub dateOf : ℕ → Day → Date
-dateOf year day = record { year = year; day = day }
-
 -- a date as it was read
 abbrev pub dated : RawDate → Date
 dated d = dateOf (yearOf d.year) d.day
@@ -72,41 +66,9 @@ offsetOf o = record { wday = o.wday; days = daysOf o.days }
 abbrev pub noOffset : DateOffset
 noOffset = record { wday = signed false 0; days = signed false 0 }
 
--- a present year plus 1
-unfoldable pub nextYear : ℕ → ℕ
-nextYear y = if eqb y 0 then 0 else suc y
-
--- a month of a year, or of none (0)
-abbrev pub yearMonth : ℕ → ℕ → YearMonth
-yearMonth y m = record { year = y; month = m }
-
--- the next month: December gives January, a present year plus 1. Without a year, months go round
-unfoldable pub nextMonth : YearMonth → YearMonth
-nextMonth a = if ltb a.month 12 then yearMonth a.year (suc a.month) else yearMonth (nextYear a.year) 1
-
--- the first month in which day e does not come before day d of month a, as numbers: month a, or the next
-unfoldable pub monthFrom : YearMonth → ℕ → ℕ → YearMonth
-monthFrom a d e = if leb d e then a else nextMonth a
-
--- the first month with a day e by the calendar, of month a and those after it: of two months in a row, one has 31 days
-unfoldable pub firstWith : ℕ → YearMonth → YearMonth
-firstWith e a = if isDay a.year a.month e then a else nextMonth a
-
--- day e of a month
-abbrev pub dayIn : ℕ → YearMonth → Date
-dayIn e a = dateOf a.year (Fixed a.month e)
-
--- bare end day e after day d of month a: the first day of the calendar with that number, not before the start
-unfoldable pub bareEnd : YearMonth → ℕ → ℕ → Date
-bareEnd a d e = dayIn e (firstWith e (monthFrom a d e))
-
--- `+`: 31 December, of 9999 if the start has a year, else yearless
-unfoldable pub lastDay : ℕ → Date
-lastDay y = dateOf (if eqb y 0 then 0 else 9999) (Fixed 12 31)
-
 -- dates from one to another
 abbrev pub dates : Date → DateOffset → Date → DateOffset → Meant
-dates d o e p = Is (Dates (record { start = d; before = o; end = e; behind = p }))
+dates d o e p = Is (Dates (record { start = d; «start_offset» = o; end = e; «end_offset» = p }))
 
 -- a bare day after a start of each form: after a fixed date by the calendar, after a weekday date its month and year, after easter refused
 abbrev pub bare : Date → DateOffset → ℕ → DateOffset → Day → Meant

@@ -1,4 +1,4 @@
--- Years and weeks: first, last and step.
+-- Years and weeks: first, last and step (docs/RULES.md, 4).
 use Prim.Native.Nat.{ℕ, _-_}
 use mathlib.Core.Bool.{Bool, _&&_}
 use lib.Dec.{ltb}
@@ -17,7 +17,7 @@ rawRange first last step = record { first = first; last = last; step = step }
 unfoldable pub stepped : Reader ℕ
 stepped = maybe (do sign "/"; count) 1
 
--- behind the first: `-` and a last, which m reads, and its step
+-- after the first: `-` and a last, which m reads, and its step
 unfoldable pub untilLast : Reader ℕ → ℕ → Reader RawRange
 untilLast m first = do
   sign "-"

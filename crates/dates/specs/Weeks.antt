@@ -1,4 +1,4 @@
--- Weeks: behind `week` and a blank, `W`, `W-W`, `W-W/N`.
+-- Weeks: after `week` and a blank, `W`, `W-W`, `W-W/N` (docs/RULES.md, 2).
 use Prim.Native.Nat.{ℕ}
 use mathlib.Core.Bool.{not}
 use lib.Dec.{ltb}

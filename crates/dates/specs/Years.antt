@@ -1,4 +1,4 @@
--- Year: `YYYY`, `YYYY+`, `YYYY-YYYY`, `YYYY-YYYY/N`.
+-- Year: `YYYY`, `YYYY+`, `YYYY-YYYY`, `YYYY-YYYY/N` (docs/RULES.md, 2).
 use Prim.Native.Nat.{ℕ}
 use mathlib.Core.Bool.{Bool, not}
 use lib.Dec.{ltb}
@@ -15,15 +15,15 @@ use Rattle.records.specs.declared.Meant.the-variants.{Is, Refused}
 use Rattle.dates.specs.Ranges.{rawRange, untilLast, goodRange, stepOf}
 use Rattle.dates.specs.declared.RawRange.{RawRange}
 
--- the shape behind the first year: `YYYY+` ends in 9999
-unfoldable pub yearBehind : ℕ → Reader RawRange
-yearBehind first = (do sign "+"; pure (rawRange first 9999 1)) or untilLast year first or pure (rawRange first first 1)
+-- the shape after the first year: `YYYY+` ends in 9999
+unfoldable pub yearAfter : ℕ → Reader RawRange
+yearAfter first = (do sign "+"; pure (rawRange first 9999 1)) or untilLast year first or pure (rawRange first first 1)
 
 -- the shape
 unfoldable pub yearShape : Reader RawRange
 yearShape = do
   first ← year
-  yearBehind first
+  yearAfter first
 
 -- a year from 1900 to 9999
 abbrev pub goodYear : ℕ → Bool
@@ -40,6 +40,6 @@ yearMeaning r =
 unfoldable pub yearItem : Reader Item
 yearItem = item yearShape yearMeaning
 
--- the item that begins at p, behind its first year
-unfoldable pub yearItemBehind : ℕ → ℕ → Reader Item
-yearItemBehind p first = meant p (yearBehind first) yearMeaning
+-- the item that begins at p, after its first year
+unfoldable pub yearItemAfter : ℕ → ℕ → Reader Item
+yearItemAfter p first = meant p (yearAfter first) yearMeaning

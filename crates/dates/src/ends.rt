@@ -9,13 +9,13 @@ use crate::EndThen;
 use crate::RawDate;
 use crate::RawDates;
 use crate::RawEnd;
-use crate::fields::date;
+use crate::dates::date;
 use days::offset;
 use names::Cursor;
 use names::Num;
 use names::Step;
 
-// Behind a minus: a bare `D`, with [offset].
+// After a minus: a bare `D`, with [offset].
 fn bare_day(s: &[u8], c: Cursor) -> EndRead
     ensures { λ r. ⌜ ends.bareDay (now (s .entry)) (c .at) ≡ seenEnd r ⌝ }
 {
@@ -29,7 +29,7 @@ fn bare_day(s: &[u8], c: Cursor) -> EndRead
     EndRead::Got(RawEnd::Bare(n as u8, o), next)
 }
 
-// Behind a minus: a date or a bare `D`, with [offset].
+// After a minus: a date or a bare `D`, with [offset].
 fn until(s: &[u8], c: Cursor) -> EndRead
     ensures { λ r. ⌜ ends.until (now (s .entry)) (c .at) ≡ seenEnd r ⌝ }
 {
@@ -71,9 +71,9 @@ fn end_shape(s: &[u8], c: Cursor) -> EndThen
     }
 }
 
-// The shape of a date item behind its date.
-pub fn dates_behind(s: &[u8], c: Cursor, first: RawDate) -> DatesThen
-    ensures { λ r. ⌜ ends.datesBehind first (now (s .entry)) (c .at) ≡ thenDates r ⌝ }
+// The shape of a date item after its date.
+pub fn dates_after(s: &[u8], c: Cursor, first: RawDate) -> DatesThen
+    ensures { λ r. ⌜ ends.datesAfter first (now (s .entry)) (c .at) ≡ thenDates r ⌝ }
 {
     let then = offset(s, c);
     let o = then.offset;

@@ -1,22 +1,22 @@
 // Years, weeks and month days.
-mod bare;
+mod bare_ends;
+mod dates;
 mod ends;
-mod fields;
 mod meanings;
-mod monthdays;
+mod month_days;
 mod ranges;
 mod weeks;
 mod years;
 
 use days::RawOffset;
-pub use monthdays::month_day_item;
-pub use monthdays::month_day_item_behind;
+pub use month_days::month_day_item;
+pub use month_days::month_day_item_after;
 use names::Cursor;
 use records::Day;
 use records::Signed;
 pub use weeks::week_item;
 pub use years::year_item;
-pub use years::year_item_behind;
+pub use years::year_item_after;
 
 // A year that may be left out.
 pub enum Year {
@@ -50,7 +50,7 @@ pub struct RawDate {
     pub day: Day,
 }
 
-// How a date item ends, as it is read: nothing behind its start, a plus, a date, or a day alone.
+// How a date item ends, as it is read: nothing after its start, a plus, a date, or a day alone.
 pub enum RawEnd {
     Nothing,
     Plus,
@@ -107,7 +107,7 @@ pub enum DateRead {
     Missing,
 }
 
-// What reading an end finds behind a minus.
+// What reading an end finds after a minus.
 pub enum EndRead {
     Got(RawEnd, Cursor),
     Missing,

@@ -10,8 +10,8 @@ use crate::RawEnd;
 use crate::RawMonths;
 use crate::Year;
 use crate::YearMonth;
-use crate::bare::bare_end;
-use crate::bare::last_day;
+use crate::bare_ends::bare_end;
+use crate::bare_ends::last_day;
 use days::RawOffset;
 use names::EASTER_DAY;
 use names::RANGE;
@@ -127,42 +127,42 @@ fn offset_of(o: RawOffset) -> DateOffset
     let wday = o.wday;
     let d = o.days;
     let days = Signed {
-        less: d.less,
+        negative: d.negative,
         n: d.n as u16,
     };
     DateOffset { wday, days }
 }
 
 // Dates from one to another.
-fn dates_of(start: Date, before: DateOffset, end: Date, behind: DateOffset) -> Meant
-    ensures { λ r. ⌜ r ≡ meanings.dates start before end behind ⌝ }
+fn dates_of(start: Date, before: DateOffset, end: Date, after: DateOffset) -> Meant
+    ensures { λ r. ⌜ r ≡ meanings.dates start before end after ⌝ }
 {
     Meant::Is(Item::Dates(DateSpan {
         start,
-        before,
+        start_offset: before,
         end,
-        behind,
+        end_offset: after,
     }))
 }
 
 // A bare day after a start of each form: after a fixed date by the calendar, after a weekday date its month and year, after easter refused.
-fn bare(start: Date, before: DateOffset, e: u8, behind: DateOffset) -> Meant
+fn bare(start: Date, before: DateOffset, e: u8, after: DateOffset) -> Meant
     requires { ⌜ start .year ≤ 9999 ⌝ }
-    ensures { λ r. ⌜ r ≡ meanings.bare start before e behind (start .day) ⌝ }
+    ensures { λ r. ⌜ r ≡ meanings.bare start before e after (start .day) ⌝ }
 {
     let year = start.year;
     let day = start.day;
     match day {
         Day::Fixed(m, d) => {
             let end = bare_end(YearMonth { year, month: m }, d, e);
-            dates_of(start, before, end, behind)
+            dates_of(start, before, end, after)
         }
         Day::Weekday(m, _, _) => {
             let same = Date {
                 year,
                 day: Day::Fixed(m, e),
             };
-            dates_of(start, before, same, behind)
+            dates_of(start, before, same, after)
         }
         Day::Easter => Meant::Refused(EASTER_DAY),
     }
@@ -179,15 +179,21 @@ fn ended(start: Date, before: DateOffset, end: RawEnd) -> Meant
         RawEnd::Plus => {
             let last = last_day(start.year);
             let none = DateOffset {
-                wday: Signed { less: false, n: 0 },
-                days: Signed { less: false, n: 0 },
+                wday: Signed {
+                    negative: false,
+                    n: 0,
+                },
+                days: Signed {
+                    negative: false,
+                    n: 0,
+                },
             };
             dates_of(start, before, last, none)
         }
         RawEnd::Until(e, p) => {
             let until = dated(e);
-            let behind = offset_of(p);
-            dates_of(start, before, until, behind)
+            let after = offset_of(p);
+            dates_of(start, before, until, after)
         }
         RawEnd::Bare(e, p) => {
             let after = offset_of(p);

@@ -1,4 +1,4 @@
-// Weeks: behind `week` and a blank, `W`, `W-W`, `W-W/N`.
+// Weeks: after `week` and a blank, `W`, `W-W`, `W-W/N`.
 ghost use mathlib.Core.Path.{_≡_};
 ghost use Rattle.names.specs.Numbers.{short};
 ghost use Rattle.records.specs.Seen.{seenItem};
@@ -22,7 +22,7 @@ use records::Meant;
 use records::WeekRange;
 use records::judged;
 
-// Behind the first week: `-W` or `-W/N`.
+// After the first week: `-W` or `-W/N`.
 fn until_week(s: &[u8], c: Cursor, first: u16) -> RangeRead
     ensures { λ r. ⌜ ranges.untilLast short first (now (s .entry)) (c .at) ≡ seenRange r ⌝ }
 {

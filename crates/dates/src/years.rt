@@ -22,7 +22,7 @@ use records::Meant;
 use records::YearRange;
 use records::judged;
 
-// Behind the first year: `-YYYY` or `-YYYY/N`.
+// After the first year: `-YYYY` or `-YYYY/N`.
 fn until_year(s: &[u8], c: Cursor, first: u16) -> RangeRead
     ensures { λ r. ⌜ ranges.untilLast year first (now (s .entry)) (c .at) ≡ seenRange r ⌝ }
 {
@@ -46,9 +46,9 @@ fn until_year(s: &[u8], c: Cursor, first: u16) -> RangeRead
     )
 }
 
-// The shape behind the first year: `YYYY+` ends in 9999.
-fn year_behind(s: &[u8], c: Cursor, first: u16) -> RangeThen
-    ensures { λ r. ⌜ years.yearBehind first (now (s .entry)) (c .at) ≡ thenRange r ⌝ }
+// The shape after the first year: `YYYY+` ends in 9999.
+fn year_after(s: &[u8], c: Cursor, first: u16) -> RangeThen
+    ensures { λ r. ⌜ years.yearAfter first (now (s .entry)) (c .at) ≡ thenRange r ⌝ }
 {
     let plus = c.sign(s, b'+');
     if let Step::Got(d) = plus {
@@ -94,11 +94,11 @@ fn year_meaning(r: RawRange) -> Meant
     }
 }
 
-// The item that begins at p, behind its first year.
-pub fn year_item_behind(s: &[u8], p: usize, c: Cursor, first: u16) -> ItemRead
-    ensures { λ r. ⌜ years.yearItemBehind p first (now (s .entry)) (c .at) ≡ seenItem r ⌝ }
+// The item that begins at p, after its first year.
+pub fn year_item_after(s: &[u8], p: usize, c: Cursor, first: u16) -> ItemRead
+    ensures { λ r. ⌜ years.yearItemAfter p first (now (s .entry)) (c .at) ≡ seenItem r ⌝ }
 {
-    let shape = year_behind(s, c, first);
+    let shape = year_after(s, c, first);
     let range = shape.range;
     let next = shape.next;
     judged(p, year_meaning(range), next)
@@ -112,5 +112,5 @@ pub fn year_item(s: &[u8], c: Cursor) -> ItemRead
     let Num::Got(first, d) = number else {
         return ItemRead::Missing;
     };
-    year_item_behind(s, c.at, d, first as u16)
+    year_item_after(s, c.at, d, first as u16)
 }

@@ -18,8 +18,8 @@ use Rattle.records.specs.declared.Meant.the-variants.{Is, Refused}
 use Rattle.records.proofs.Cut.{Alike, Refuses, refuses-if, item-alike}
 use Rattle.days.specs.Offsets.{plusOrMinus, dayOffset, noDays, anyDays, wdayOffset, offset, goodDays, daysOf}
 use Rattle.days.specs.Entries.{backEntry, frontEntry, entry, nextEntry, noMarks, entries, bits}
-use Rattle.days.specs.Weekdays.{lastWeekday, bracketed, untilWeekday, withEntries, narrowBehind, wideBehind, weekdayBehind, weekdayShape, weekdaysOf, flagged, weekdayMeaning, weekdayItem}
-use Rattle.days.specs.Holidays.{holidayBehind, holidayShape, holidayMeaning, holidayItem}
+use Rattle.days.specs.Weekdays.{lastWeekday, bracketed, untilWeekday, withEntries, narrowAfter, wideAfter, weekdayAfter, weekdayShape, weekdaysOf, flagged, weekdayMeaning, weekdayItem}
+use Rattle.days.specs.Holidays.{holidayAfter, holidayShape, holidayMeaning, holidayItem}
 use Rattle.days.specs.declared.RawWeekdays.{RawWeekdays}
 use Rattle.days.specs.declared.RawHoliday.{RawHoliday}
 
@@ -31,7 +31,7 @@ module _ {u : List ℕ} where
   pub dayOffset-alike : Alike u 1 dayOffset
   unfolding dayOffset
   dayOffset-alike =
-      then-local blank-local (λ _. then-local (free plusOrMinus-alike) (λ less. then-local (free count-local) (λ n.
+      then-local blank-local (λ _. then-local (free plusOrMinus-alike) (λ negative. then-local (free count-local) (λ n.
       then-local (free blank-local) (λ _. then-local (free (name-local day)) (λ _. pure-local _)))))
 
   pub anyDays-alike : Alike u 0 anyDays
@@ -40,7 +40,7 @@ module _ {u : List ℕ} where
 
   pub wdayOffset-alike : Alike u 1 wdayOffset
   unfolding wdayOffset
-  wdayOffset-alike = then-local plusOrMinus-alike (λ less. then-local (free (name-local weekday)) (λ w. pure-local _))
+  wdayOffset-alike = then-local plusOrMinus-alike (λ negative. then-local (free (name-local weekday)) (λ w. pure-local _))
 
   pub offset-alike : Alike u 0 offset
   unfolding offset
@@ -84,27 +84,27 @@ module _ {u : List ℕ} where
   unfolding withEntries
   withEntries-alike first = then-local bracketed-alike (λ m. then-local anyDays-alike (λ d. pure-local _))
 
-  narrowBehind-alike : (first : ℕ) → Alike u 0 (narrowBehind first)
-  unfolding narrowBehind
-  narrowBehind-alike first = or-local (free (untilWeekday-alike first)) (or-local (free (withEntries-alike first)) (pure-local _))
+  narrowAfter-alike : (first : ℕ) → Alike u 0 (narrowAfter first)
+  unfolding narrowAfter
+  narrowAfter-alike first = or-local (free (untilWeekday-alike first)) (or-local (free (withEntries-alike first)) (pure-local _))
 
-  pub weekdayBehind-alike : (m : Manner) (first : ℕ) → Alike u 0 (weekdayBehind m first)
-  unfolding wideBehind
-  weekdayBehind-alike First first = narrowBehind-alike first
-  weekdayBehind-alike House first = narrowBehind-alike first
-  weekdayBehind-alike Second first = then-local (maybe-local lastWeekday-alike first) (λ last. then-local (maybe-local bracketed-alike noMarks) (λ m. then-local anyDays-alike (λ d. pure-local _)))
+  pub weekdayAfter-alike : (m : Manner) (first : ℕ) → Alike u 0 (weekdayAfter m first)
+  unfolding wideAfter
+  weekdayAfter-alike First first = narrowAfter-alike first
+  weekdayAfter-alike House first = narrowAfter-alike first
+  weekdayAfter-alike Second first = then-local (maybe-local lastWeekday-alike first) (λ last. then-local (maybe-local bracketed-alike noMarks) (λ m. then-local anyDays-alike (λ d. pure-local _)))
 
   pub weekdayShape-alike : (m : Manner) → Alike u 1 (weekdayShape m)
   unfolding weekdayShape
-  weekdayShape-alike m = then-local (name-local weekday) (weekdayBehind-alike m)
+  weekdayShape-alike m = then-local (name-local weekday) (weekdayAfter-alike m)
 
-  pub holidayBehind-alike : (kind : ℕ) → Alike u 0 (holidayBehind kind)
-  unfolding holidayBehind
-  holidayBehind-alike kind = then-local anyDays-alike (λ d. pure-local _)
+  pub holidayAfter-alike : (kind : ℕ) → Alike u 0 (holidayAfter kind)
+  unfolding holidayAfter
+  holidayAfter-alike kind = then-local anyDays-alike (λ d. pure-local _)
 
   pub holidayShape-alike : Alike u 1 holidayShape
   unfolding holidayShape
-  holidayShape-alike = then-local (name-local holiday) holidayBehind-alike
+  holidayShape-alike = then-local (name-local holiday) holidayAfter-alike
 
 -- the meanings refuse by 4 alone
 flagged-refuses : (first last : ℕ) (days : Signed) (starts ends : ℕ) → Refuses (flagged first last days starts ends)
@@ -113,7 +113,9 @@ flagged-refuses first last days starts ends = refuses-if (eqb starts 0 && eqb en
 
 pub weekday-refuses : (r : RawWeekdays) → Refuses (weekdayMeaning r)
 unfolding weekdayMeaning
-weekday-refuses r = refuses-if (not (r.marks .good && goodDays r.days)) (Refused 4) (flagged r.first r.last (daysOf r.days) (bits (r.marks .starts)) (bits (r.marks .ends))) (omega arith) (flagged-refuses _ _ _ _ _)
+weekday-refuses r =
+    refuses-if (not (r.marks .good && goodDays r.days)) (Refused 4) (flagged r.first r.last (daysOf r.days) (bits (r.marks .starts)) (bits (r.marks .ends)))
+    (omega arith) (flagged-refuses _ _ _ _ _)
 
 pub holiday-refuses : (r : RawHoliday) → Refuses (holidayMeaning r)
 unfolding holidayMeaning

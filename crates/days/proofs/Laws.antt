@@ -12,7 +12,7 @@ use Rattle.days.specs.declared.Marks.{Marks}
 use Rattle.days.proofs.Cut.{nextEntry-alike}
 
 module _ (s : List ℕ) (i : ℕ) where
-  -- the first entry, and those behind it
+  -- the first entry, and those after it
   pub marked-first : {e : Entry} {j : ℕ} {n m : Marks} → entry s i ≡ got e j → n ≡ noMarks → m ≡ marked n e → entries s i ≡ map (markedAll m) (many nextEntry) s j
   unfolding entries
   marked-first h p q = rw (h, q, p)

@@ -1,4 +1,4 @@
 pub mod Cut
 pub mod Laws
-pub mod Apart
+pub mod OneAnswer
 pub mod Examples

@@ -1,4 +1,4 @@
--- Entry: `n`, `n-n`, `-n`. Entries set flag n; a descending pair sets none.
+-- Entry: `n`, `n-n`, `-n`. Entries set flag n; a descending pair sets none (docs/RULES.md, 2).
 use Prim.Native.Nat.{ℕ, _+_}
 use mathlib.Core.List.{List, [], _∷_}
 use mathlib.Core.Bool.{Bool, true, false, _&&_, _||_}

@@ -1,4 +1,4 @@
--- Holiday: `PH` or `SH` with optional day offset.
+-- Holiday: `PH` or `SH` with optional day offset (docs/RULES.md, 2).
 use Prim.Native.Nat.{ℕ}
 use mathlib.Core.Bool.{not}
 use Rattle.names.specs.Tests.{if_then_else_}
@@ -13,9 +13,9 @@ use Rattle.records.specs.declared.Meant.the-variants.{Is, Refused}
 use Rattle.days.specs.Offsets.{anyDays, goodDays, daysOf}
 use Rattle.days.specs.declared.RawHoliday.{RawHoliday}
 
--- the shape behind the name
-unfoldable pub holidayBehind : ℕ → Reader RawHoliday
-holidayBehind kind = do
+-- the shape after the name
+unfoldable pub holidayAfter : ℕ → Reader RawHoliday
+holidayAfter kind = do
   d ← anyDays
   pure (record { kind = kind; days = d })
 
@@ -23,7 +23,7 @@ holidayBehind kind = do
 unfoldable pub holidayShape : Reader RawHoliday
 holidayShape = do
   kind ← name holiday
-  holidayBehind kind
+  holidayAfter kind
 
 -- the meaning
 unfoldable pub holidayMeaning : RawHoliday → Meant
@@ -33,6 +33,6 @@ holidayMeaning r = if not (goodDays r.days) then Refused range else Is (Holidays
 unfoldable pub holidayItem : Reader Item
 holidayItem = item holidayShape holidayMeaning
 
--- the item that begins at p, behind its name
-unfoldable pub holidayItemBehind : ℕ → ℕ → Reader Item
-holidayItemBehind p kind = meant p (holidayBehind kind) holidayMeaning
+-- the item that begins at p, after its name
+unfoldable pub holidayItemAfter : ℕ → ℕ → Reader Item
+holidayItemAfter p kind = meant p (holidayAfter kind) holidayMeaning

@@ -1,4 +1,4 @@
--- Offset: `+Wd` or `-Wd`, or a day offset, or both in that order. Day offset: blank, sign, `N`, blank, `day` or `days`.
+-- Offset: `+Wd` or `-Wd`, or a day offset, or both in that order. Day offset: blank, sign, `N`, blank, `day` or `days` (docs/RULES.md, 2).
 use Prim.Native.Nat.{ℕ}
 use mathlib.Core.Bool.{Bool, true, false}
 use Rattle.names.specs.Read.{Reader, pure, _>>=_, _>>_, _or_, maybe}
@@ -16,7 +16,7 @@ plusOrMinus = (do sign "+"; pure false) or (do sign "-"; pure true)
 
 -- days that are added, or taken off
 abbrev pub rawDays : Bool → ℕ → RawDays
-rawDays less n = record { less = less; n = n }
+rawDays negative n = record { negative = negative; n = n }
 
 -- no days
 abbrev pub noDays : RawDays
@@ -26,11 +26,11 @@ noDays = rawDays false 0
 unfoldable pub dayOffset : Reader RawDays
 dayOffset = do
   blank
-  less ← plusOrMinus
+  negative ← plusOrMinus
   n ← count
   blank
   name day
-  pure (rawDays less n)
+  pure (rawDays negative n)
 
 -- a day offset, or none
 unfoldable pub anyDays : Reader RawDays
@@ -39,9 +39,9 @@ anyDays = maybe dayOffset noDays
 -- `+Wd` or `-Wd`
 unfoldable pub wdayOffset : Reader Signed
 wdayOffset = do
-  less ← plusOrMinus
+  negative ← plusOrMinus
   w ← name weekday
-  pure (signed less w)
+  pure (signed negative w)
 
 -- an offset, or none
 unfoldable pub offset : Reader RawOffset
@@ -56,4 +56,4 @@ goodDays d = goodCount d.n
 
 -- days in range
 abbrev pub daysOf : RawDays → Signed
-daysOf d = signed d.less d.n
+daysOf d = signed d.negative d.n

@@ -1,4 +1,4 @@
--- Weekday: `Wd`, `Wd-Wd`, or `Wd[entries]` with optional day offset. In the second edition `Wd` or `Wd-Wd`, each with optional `[entries]` and optional day offset.
+-- Weekday: `Wd`, `Wd-Wd`, or `Wd[entries]` with optional day offset. In the second edition `Wd` or `Wd-Wd`, each with optional `[entries]` and optional day offset (docs/RULES.md, 2).
 use Prim.Native.Nat.{ℕ}
 use mathlib.Core.Bool.{_&&_, not}
 use lib.Dec.{eqb}
@@ -57,28 +57,28 @@ withEntries first = do
   pure (rawWeekdays first first m d)
 
 -- after the first, in the first edition and in a house sheet: one of the two, or nothing
-unfoldable pub narrowBehind : ℕ → Reader RawWeekdays
-narrowBehind first = untilWeekday first or withEntries first or pure (plain first first)
+unfoldable pub narrowAfter : ℕ → Reader RawWeekdays
+narrowAfter first = untilWeekday first or withEntries first or pure (plain first first)
 
 -- after the first, in the second edition: `-Wd` or none, `[entries]` or none, a day offset or none
-unfoldable pub wideBehind : ℕ → Reader RawWeekdays
-wideBehind first = do
+unfoldable pub wideAfter : ℕ → Reader RawWeekdays
+wideAfter first = do
   last ← maybe lastWeekday first
   m ← maybe bracketed noMarks
   d ← anyDays
   pure (rawWeekdays first last m d)
 
 -- the shape after the first weekday
-abbrev pub weekdayBehind : Manner → ℕ → Reader RawWeekdays
-weekdayBehind First = narrowBehind
-weekdayBehind Second = wideBehind
-weekdayBehind House = narrowBehind
+abbrev pub weekdayAfter : Manner → ℕ → Reader RawWeekdays
+weekdayAfter First = narrowAfter
+weekdayAfter Second = wideAfter
+weekdayAfter House = narrowAfter
 
 -- the shape
 unfoldable pub weekdayShape : Manner → Reader RawWeekdays
 weekdayShape m = do
   first ← name weekday
-  weekdayBehind m first
+  weekdayAfter m first
 
 -- weekdays with these flags
 abbrev pub weekdaysOf : ℕ → ℕ → Signed → ℕ → ℕ → Meant
@@ -98,6 +98,6 @@ weekdayMeaning r =
 unfoldable pub weekdayItem : Manner → Reader Item
 weekdayItem m = item (weekdayShape m) weekdayMeaning
 
--- the item that begins at p, behind its first weekday
-unfoldable pub weekdayItemBehind : Manner → ℕ → ℕ → Reader Item
-weekdayItemBehind m p first = meant p (weekdayBehind m first) weekdayMeaning
+-- the item that begins at p, after its first weekday
+unfoldable pub weekdayItemAfter : Manner → ℕ → ℕ → Reader Item
+weekdayItemAfter m p first = meant p (weekdayAfter m first) weekdayMeaning

@@ -22,7 +22,7 @@ fn holiday_meaning(r: RawHoliday) -> Meant
     let d = r.days;
     if d.n <= 32767 {
         let days = Signed {
-            less: d.less,
+            negative: d.negative,
             n: d.n as u16,
         };
         Meant::Is(Item::Holidays(Holiday { kind: r.kind, days }))
@@ -31,9 +31,9 @@ fn holiday_meaning(r: RawHoliday) -> Meant
     }
 }
 
-// The item that begins at p, behind its name.
-pub fn holiday_item_behind(s: &[u8], p: usize, c: Cursor, kind: u8) -> ItemRead
-    ensures { λ r. ⌜ holidays.holidayItemBehind p kind (now (s .entry)) (c .at) ≡ seenItem r ⌝ }
+// The item that begins at p, after its name.
+pub fn holiday_item_after(s: &[u8], p: usize, c: Cursor, kind: u8) -> ItemRead
+    ensures { λ r. ⌜ holidays.holidayItemAfter p kind (now (s .entry)) (c .at) ≡ seenItem r ⌝ }
 {
     let then = any_days(s, c);
     let days = then.days;
@@ -49,5 +49,5 @@ pub fn holiday_item(s: &[u8], c: Cursor) -> ItemRead
     let Num::Got(kind, d) = name else {
         return ItemRead::Missing;
     };
-    holiday_item_behind(s, c.at, d, kind as u8)
+    holiday_item_after(s, c.at, d, kind as u8)
 }

@@ -5,18 +5,18 @@ mod offsets;
 mod weekdays;
 
 pub use holidays::holiday_item;
-pub use holidays::holiday_item_behind;
+pub use holidays::holiday_item_after;
 use names::Cursor;
 pub use offsets::day_offset;
 pub use offsets::offset;
 use records::Meant;
 use records::Signed;
 pub use weekdays::weekday_item;
-pub use weekdays::weekday_item_behind;
+pub use weekdays::weekday_item_after;
 
 // A number of days as it is read.
 pub struct RawDays {
-    pub less: bool,
+    pub negative: bool,
     pub n: u32,
 }
 
@@ -105,7 +105,7 @@ pub enum MarksRead {
     Missing,
 }
 
-// What reading weekdays finds behind the first.
+// What reading weekdays finds after the first.
 pub enum WeekdaysRead {
     Got(RawWeekdays, Cursor),
     Missing,

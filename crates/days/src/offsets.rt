@@ -40,22 +40,22 @@ pub fn day_offset(s: &[u8], c: Cursor) -> DaysRead
         return DaysRead::Missing;
     };
     let sign = plus_or_minus(s, d);
-    let SignRead::Got(less, e) = sign else {
+    let SignRead::Got(negative, e) = sign else {
         return DaysRead::Missing;
     };
     let number = e.count(s);
     let Num::Got(n, f) = number else {
         return DaysRead::Missing;
     };
-    let behind = f.blank(s);
-    let Step::Got(g) = behind else {
+    let after = f.blank(s);
+    let Step::Got(g) = after else {
         return DaysRead::Missing;
     };
     let name = g.name(s, DAY);
     let Num::Got(_, h) = name else {
         return DaysRead::Missing;
     };
-    DaysRead::Got(RawDays { less, n }, h)
+    DaysRead::Got(RawDays { negative, n }, h)
 }
 
 // A day offset, or none.
@@ -66,7 +66,10 @@ pub fn any_days(s: &[u8], c: Cursor) -> DaysThen
     match some {
         DaysRead::Got(days, d) => DaysThen { days, next: d },
         DaysRead::Missing => DaysThen {
-            days: RawDays { less: false, n: 0 },
+            days: RawDays {
+                negative: false,
+                n: 0,
+            },
             next: c,
         },
     }
@@ -77,14 +80,20 @@ fn wday_offset(s: &[u8], c: Cursor) -> WdayRead
     ensures { λ r. ⌜ offsets.wdayOffset (now (s .entry)) (c .at) ≡ seenWday r ⌝ }
 {
     let sign = plus_or_minus(s, c);
-    let SignRead::Got(less, d) = sign else {
+    let SignRead::Got(negative, d) = sign else {
         return WdayRead::Missing;
     };
     let name = d.name(s, WEEKDAY);
     let Num::Got(w, e) = name else {
         return WdayRead::Missing;
     };
-    WdayRead::Got(Signed { less, n: w as u16 }, e)
+    WdayRead::Got(
+        Signed {
+            negative,
+            n: w as u16,
+        },
+        e,
+    )
 }
 
 // An offset, or none.
@@ -108,7 +117,10 @@ pub fn offset(s: &[u8], c: Cursor) -> OffsetThen
             let after = only.next;
             OffsetThen {
                 offset: RawOffset {
-                    wday: Signed { less: false, n: 0 },
+                    wday: Signed {
+                        negative: false,
+                        n: 0,
+                    },
                     days: alone,
                 },
                 next: after,

@@ -39,7 +39,10 @@ fn plain(first: u8, last: u8) -> Meant
     Meant::Is(Item::Weekdays(WeekDayRange {
         first,
         last,
-        days: Signed { less: false, n: 0 },
+        days: Signed {
+            negative: false,
+            n: 0,
+        },
         starts: ALL,
         ends: ALL,
     }))
@@ -98,8 +101,8 @@ fn with_entries(s: &[u8], c: Cursor, first: u8) -> WeekdaysRead
 }
 
 // After the first, in the first edition: `-Wd`, or `[entries]` with optional day offset, or nothing.
-fn narrow_behind(s: &[u8], c: Cursor, first: u8) -> WeekdaysThen
-    ensures { λ r. ⌜ map weekdays.weekdayMeaning (weekdays.narrowBehind first) (now (s .entry)) (c .at) ≡ thenWeekdays r ⌝ }
+fn narrow_after(s: &[u8], c: Cursor, first: u8) -> WeekdaysThen
+    ensures { λ r. ⌜ map weekdays.weekdayMeaning (weekdays.narrowAfter first) (now (s .entry)) (c .at) ≡ thenWeekdays r ⌝ }
 {
     let name = last_weekday(s, c);
     if let Num::Got(last, d) = name {
@@ -169,8 +172,8 @@ fn any_marks(s: &[u8], c: Cursor) -> MarksThen
 }
 
 // After the first, in the second edition: `-Wd` or none, `[entries]` or none, a day offset or none.
-fn wide_behind(s: &[u8], c: Cursor, first: u8) -> WeekdaysThen
-    ensures { λ r. ⌜ map weekdays.weekdayMeaning (weekdays.wideBehind first) (now (s .entry)) (c .at) ≡ thenWeekdays r ⌝ }
+fn wide_after(s: &[u8], c: Cursor, first: u8) -> WeekdaysThen
+    ensures { λ r. ⌜ map weekdays.weekdayMeaning (weekdays.wideAfter first) (now (s .entry)) (c .at) ≡ thenWeekdays r ⌝ }
 {
     let range = any_last(s, c, first);
     let marked = any_marks(s, range.next);
@@ -188,12 +191,12 @@ fn wide_behind(s: &[u8], c: Cursor, first: u8) -> WeekdaysThen
 }
 
 // The shape after the first weekday, and its meaning.
-fn weekday_behind(s: &[u8], m: Manner, c: Cursor, first: u8) -> WeekdaysThen
-    ensures { λ r. ⌜ map weekdays.weekdayMeaning (weekdays.weekdayBehind m first) (now (s .entry)) (c .at) ≡ thenWeekdays r ⌝ }
+fn weekday_after(s: &[u8], m: Manner, c: Cursor, first: u8) -> WeekdaysThen
+    ensures { λ r. ⌜ map weekdays.weekdayMeaning (weekdays.weekdayAfter m first) (now (s .entry)) (c .at) ≡ thenWeekdays r ⌝ }
 {
     match m {
-        Manner::Second => wide_behind(s, c, first),
-        _ => narrow_behind(s, c, first),
+        Manner::Second => wide_after(s, c, first),
+        _ => narrow_after(s, c, first),
     }
 }
 
@@ -232,7 +235,7 @@ fn weekday_meaning(r: RawWeekdays) -> Meant
             let starts = m.starts;
             let ends = m.ends;
             let days = Signed {
-                less: d.less,
+                negative: d.negative,
                 n: d.n as u16,
             };
             flagged(r.first, r.last, days, bits(starts), bits(ends))
@@ -244,11 +247,11 @@ fn weekday_meaning(r: RawWeekdays) -> Meant
     }
 }
 
-// The item that begins at p, behind its first weekday.
-pub fn weekday_item_behind(s: &[u8], m: Manner, p: usize, c: Cursor, first: u8) -> ItemRead
-    ensures { λ r. ⌜ weekdays.weekdayItemBehind m p first (now (s .entry)) (c .at) ≡ seenItem r ⌝ }
+// The item that begins at p, after its first weekday.
+pub fn weekday_item_after(s: &[u8], m: Manner, p: usize, c: Cursor, first: u8) -> ItemRead
+    ensures { λ r. ⌜ weekdays.weekdayItemAfter m p first (now (s .entry)) (c .at) ≡ seenItem r ⌝ }
 {
-    let shape = weekday_behind(s, m, c, first);
+    let shape = weekday_after(s, m, c, first);
     let meant = shape.meant;
     let next = shape.next;
     judged(p, meant, next)
@@ -262,5 +265,5 @@ pub fn weekday_item(s: &[u8], m: Manner, c: Cursor) -> ItemRead
     let Num::Got(first, d) = name else {
         return ItemRead::Missing;
     };
-    weekday_item_behind(s, m, c.at, d, first as u8)
+    weekday_item_after(s, m, c.at, d, first as u8)
 }

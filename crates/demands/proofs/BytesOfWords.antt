@@ -56,7 +56,8 @@ words-back (suc k) (a ∷ b ∷ c ∷ []) h e = absurd (omega arith)
 words-back (suc k) (a ∷ b ∷ c ∷ d ∷ l) (ha, (hb, (hc, (hd, h)))) e =
     let r = words-back k l h (omega arith) in
     let f = number-fits a b c d ha hb hc hd in (
-      ap (λ (n : ℕ). littleEndian n ++ recordBytes (wordsOf l)) (ofZ-toZ f) ∙ ap (λ (u : List ℕ). u ++ recordBytes (wordsOf l)) (number-bytes a b c d ha hb hc hd) ∙ ap (λ (u : List ℕ). a ∷ b ∷ c ∷ d ∷ u) (r .0),
+      ap (λ (n : ℕ). littleEndian n ++ recordBytes (wordsOf l)) (ofZ-toZ f) ∙ ap (λ (u : List ℕ). u ++ recordBytes (wordsOf l)) (number-bytes a b c d ha hb hc hd)
+          ∙ ap (λ (u : List ℕ). a ∷ b ∷ c ∷ d ∷ u) (r .0),
       ap suc (r .1),
       (sfits-toZ f, r .2),
     )

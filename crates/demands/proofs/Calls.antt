@@ -16,7 +16,7 @@ use Rattle.sheet.specs.declared.PartAnswer.{PartAnswer}
 use Rattle.entries.specs.Calls.{flag, sheetCallBy, partCallBy}
 use Rattle.demands.specs.Alone.{partAlone}
 use Rattle.demands.specs.ByC.{sheetByC, partByC}
-use Rattle.demands.specs.Exchanged.{Exchanged, LeftCall}
+use Rattle.demands.specs.Exchanged.{Exchanged, UnchangedCall}
 use Rattle.demands.specs.Together.{TogetherCalls, walk}
 use Rattle.demands.proofs.Alone.{alone}
 use Rattle.demands.proofs.Exchange.{exchange-called}
@@ -62,13 +62,13 @@ module _ (m : Manner) (s : List ℕ) (p : ℕ) (h : length s ≤ 4096) (b : begi
 -- ---- one part is exchanged: every other part, read with a table as long as before
 
 module _ (m : Manner) {a x y b : List ℕ} (z : Exchanged a x y b) (p : ℕ) (k : begins (a ++ (x ++ b)) p ≡ true) (e : p ≢ length a) where
-  pub exchange-words : (t : List ℤ) (n : ℕ) → length t ≡ n → LeftCall m asWords (partReadingBy m) n t a x y b p
+  pub exchange-words : (t : List ℤ) (n : ℕ) → length t ≡ n → UnchangedCall m asWords (partReadingBy m) n t a x y b p
   exchange-words t n l = exchange-called z m asWords (partReadingBy m) n t (words-part m t n l) p k e
 
-  pub exchange-bytes : (t : List ℕ) (n : ℕ) → length t ≡ n → LeftCall m asBytes (partReadingBytesBy m) (wordsIn n) t a x y b p
+  pub exchange-bytes : (t : List ℕ) (n : ℕ) → length t ≡ n → UnchangedCall m asBytes (partReadingBytesBy m) (wordsIn n) t a x y b p
   exchange-bytes t n l = exchange-called z m asBytes (partReadingBytesBy m) (wordsIn n) t (bytes-part m t n l) p k e
 
-  pub exchange-c : (t : List ℕ) (n : ℕ) → length t ≡ n → LeftCall m asBytes (partByC m) (wordsIn n) t a x y b p
+  pub exchange-c : (t : List ℕ) (n : ℕ) → length t ≡ n → UnchangedCall m asBytes (partByC m) (wordsIn n) t a x y b p
   exchange-c t n l = exchange-called z m asBytes (partByC m) (wordsIn n) t (λ s q. part-by-c m s q t ∙ bytes-part m t n l s q) p k e
 
 -- ---- the sheet and its parts, and where the parts are
@@ -84,7 +84,8 @@ module _ (m : Manner) (s : List ℕ) (h : length s ≤ 4096) where
 
   pub together-c : (t : List ℕ) → TogetherCalls asBytes (wordsIn (length t)) t (sheetByC m s t) (λ p. partByC m s p t) (λ p. partBy m s p (wordsIn (length t)) .1) (places s)
   together-c t =
-      subst (λ (part : ℕ → PartAnswer × List ℕ). TogetherCalls asBytes (wordsIn (length t)) t (sheetByC m s t) part (λ p. partBy m s p (wordsIn (length t)) .1) (places s)) (λ i p. sym (part-by-c m s p t) i)
+      subst (λ (part : ℕ → PartAnswer × List ℕ). TogetherCalls asBytes (wordsIn (length t)) t (sheetByC m s t) part (λ p. partBy m s p (wordsIn (length t)) .1)
+      (places s)) (λ i p. sym (part-by-c m s p t) i)
       (rw (sheet-by-c m s t) (together-bytes t))
 
   pub places-words : (t : List ℤ) → walk (λ p. partReadingBy m s p t .0) (suc (length s)) 0 ≡ places s

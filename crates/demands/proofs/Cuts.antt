@@ -1,4 +1,4 @@
--- The cut law: the rules of a text with a `;` outside quotes are those before it and those behind it.
+-- The cut law: the rules of a text with a `;` outside quotes are those before it and those after it.
 use Prim.Native.Nat.{ℕ, zero, suc, _+_, _≤_, _<_}
 use mathlib.Core.List.{List, [], _∷_, _++_}
 use mathlib.Core.List as list
@@ -62,16 +62,17 @@ module _ (s t : List ℕ) {B : Type 0} {P : B → ℕ → B → ℕ → Type 0} 
   cut-or i q neither c = c
   cut-or i q both c = both
 
--- ---- what stands behind a rule
+-- ---- what stands after a rule
 
--- the next rule is the same; or the text's end became the `;`, behind which another rule stands
+-- the next rule is the same; or the text's end became the `;`, after which another rule stands
 data Goes (s : List ℕ) (i : ℕ) : Next → ℕ → Next → ℕ → Type 0 where
   on : {n j : ℕ} → i ≤ j → Side false s j → Goes s i (Another n) j (Another n) j
   over : {j : ℕ} → i ≤ j → j ≡ length s → Goes s i (Another 0) (suc j) Finished j
 
 module _ (s t : List ℕ) where
   -- a separator that begins with no `;`
-  made-cut : {k i : ℕ} {m : Reader (Unit {0})} (n : ℕ) → Local Stop keep [] false false k m m → Side false s i → Cut (Goes s i) (branch m (λ _. pure (Another n)) nothing (s ++ 59 ∷ t) i) (branch m (λ _. pure (Another n)) nothing s i)
+  made-cut : {k i : ℕ} {m : Reader (Unit {0})} (n : ℕ) → Local Stop keep [] false false k m m → Side false s i →
+      Cut (Goes s i) (branch m (λ _. pure (Another n)) nothing (s ++ 59 ∷ t) i) (branch m (λ _. pure (Another n)) nothing s i)
   made-cut n M w = cut-then s t _ M (λ _. refl) w (λ _ j h z. found (on (omega arith) z))
 
   -- the text's end, or what parts a rule from the next
@@ -83,7 +84,8 @@ module _ (s t : List ℕ) where
       others = (do commaBlank; pure (Another 1)) or (do bars; pure (Another 2))
 
       semicolon : i < length s → (b : Bool) → eqb 59 (getD s i 0) ≡ b →
-          Cut (Goes s i) (follow (s ++ 59 ∷ t) i (follow (s ++ 59 ∷ t) i (follow (s ++ 59 ∷ t) i (when b (got (getD s i 0) (suc i))) (λ _. pure (tt {0})) nothing) (λ _. pure (Another 0)) nothing) pure others)
+          Cut (Goes s i) (follow (s ++ 59 ∷ t) i (follow (s ++ 59 ∷ t) i (follow (s ++ 59 ∷ t) i (when b (got (getD s i 0) (suc i))) (λ _. pure (tt {0})) nothing)
+          (λ _. pure (Another 0)) nothing) pure others)
           (follow s i (follow s i (follow s i (when b (got (getD s i 0) (suc i))) (λ _. pure (tt {0})) nothing) (λ _. pure (Another 0)) nothing) pure others)
       semicolon h true q = found (on {j = suc i} (omega arith) (next-at w h (stays (eqb 59) refl (getD s i 0) false q)))
       semicolon h false q = cut-or s t i _ (made-cut 1 commaBlank-local w) (made-cut 2 bars-local w)
@@ -91,7 +93,14 @@ module _ (s t : List ℕ) where
       go : Dec (i < length s) → Cut (Goes s i) (next (s ++ 59 ∷ t) i) (next s i)
       go (yes h) =
           let l : i < length (s ++ 59 ∷ t) = simp length-append (omega arith) in
-          rw (ne-eqb i (length (s ++ 59 ∷ t)) (λ e. omega arith), ne-eqb i (length s) (λ e. omega arith), lt-ltb i (length (s ++ 59 ∷ t)) l, lt-ltb i (length s) h, List·getD-append s (59 ∷ t) 0 i h) (semicolon h (eqb 59 (getD s i 0)) refl)
+          rw (
+            ne-eqb i (length (s ++ 59 ∷ t)) (λ e. omega arith),
+            ne-eqb i (length s) (λ e. omega arith),
+            lt-ltb i (length (s ++ 59 ∷ t)) l,
+            lt-ltb i
+                (length s) h,
+            List·getD-append s (59 ∷ t) 0 i h,
+          ) (semicolon h (eqb 59 (getD s i 0)) refl)
       go (no h) =
           let e : i ≡ length s = omega (arith, w .fits) in
           let l : i < length (s ++ 59 ∷ t) = simp length-append (omega arith) in
@@ -104,7 +113,7 @@ module _ (s t : List ℕ) where
       let e : missingAt (s ++ 59 ∷ t) j ≡ missingAt s j = ap (missingAt (s ++ 59 ∷ t)) (sym (zero-add j)) ∙ missing-alike [] s (59 ∷ t) j (stop-at t) z in
       rw e both)
 
-  -- what has to stand behind a rule
+  -- what has to stand after a rule
   must-cut : (i : ℕ) → Side false s i → Cut (Goes s i) (must next (s ++ 59 ∷ t) i) (must next s i)
   must-cut i w = cut-or s t i _ (next-cut i w) (missing-cut i w)
 
@@ -122,7 +131,7 @@ items-still (a ∷ l) = rw (zero-add (a .1), items-still l)
 rule-still : (r : Rule) → ruleMoves 0 r ≡ r
 rule-still r = rw (start-still (r .0 .comment .length) (r .0 .comment .start), zero-add (r .0 .place), items-still (r .1))
 
--- the same rule, of a byte at least, and what stands behind it
+-- the same rule, of a byte at least, and what stands after it
 abbrev Steps : List ℕ → ℕ → Rule × Next → ℕ → Rule × Next → ℕ → Type 0
 Steps s i x j y e = (x .0 ≡ y .0) × Goes s (suc i) (x .1) j (y .1) e
 
@@ -132,7 +141,7 @@ module _ (m : Manner) (s t : List ℕ) where
   goes-from h (on {j = p} l z) = on {j = p} (omega arith) z
   goes-from h (over {j = p} l e) = over {j = p} (omega arith) e
 
-  -- what stands behind a rule, beside that rule
+  -- what stands after a rule, beside that rule
   paired : {i j : ℕ} (r : Rule) {x y : Read Next} → suc i ≤ j → Cut (Goes s j) x y → Cut (Steps s i) (follow (s ++ 59 ∷ t) j x (λ n. pure (r, n)) nothing) (follow s j y (λ n. pure (r, n)) nothing)
   paired r h (found g) = found (refl, goes-from h g)
   paired r h neither = neither
@@ -193,13 +202,15 @@ module _ (m : Manner) (s t : List ℕ) where
   cut-from (suc n) separator i w h =
       rw (rules-are m (Another separator) (s ++ 59 ∷ t) i, rules-are m (Another separator) s i) (go (λ q j z l. cut-from n q j z l) (step-cut m s t separator i w))
     where
-      ends : ((q j : ℕ) → Side false s j → length s < n + j → chain (moreRules m) noMore (Another q) (s ++ 59 ∷ t) j ≡ joined (chain (moreRules m) noMore (Another q) s j) (rules m (s ++ 59 ∷ t) (suc (length s)))) →
+      ends : ((q j : ℕ) → Side false s j → length s < n + j →
+          chain (moreRules m) noMore (Another q) (s ++ 59 ∷ t) j ≡ joined (chain (moreRules m) noMore (Another q) s j) (rules m (s ++ 59 ∷ t) (suc (length s)))) →
           (r : Rule) {x y : Next} {j e : ℕ} → Goes s (suc i) x j y e →
           map (before r) (chain (moreRules m) noMore x) (s ++ 59 ∷ t) j ≡ joined (map (before r) (chain (moreRules m) noMore y) s e) (rules m (s ++ 59 ∷ t) (suc (length s)))
       ends ih r (on {n = q} {j} l z) = rw (ih q j z (omega arith)) (front r j j (chain (moreRules m) noMore (Another q) s j) (rules m (s ++ 59 ∷ t) (suc (length s))))
       ends ih r (over {j} l e) = rw (rules-are m Finished s j, e) (alone r (suc (length s)) (rules m (s ++ 59 ∷ t) (suc (length s))))
 
-      go : ((q j : ℕ) → Side false s j → length s < n + j → chain (moreRules m) noMore (Another q) (s ++ 59 ∷ t) j ≡ joined (chain (moreRules m) noMore (Another q) s j) (rules m (s ++ 59 ∷ t) (suc (length s)))) →
+      go : ((q j : ℕ) → Side false s j → length s < n + j →
+          chain (moreRules m) noMore (Another q) (s ++ 59 ∷ t) j ≡ joined (chain (moreRules m) noMore (Another q) s j) (rules m (s ++ 59 ∷ t) (suc (length s)))) →
           {x y : Read (Rule × Next)} → Cut (Steps s i) x y →
           follow (s ++ 59 ∷ t) i x (λ c. map (before (c .0)) (chain (moreRules m) noMore (c .1))) (map last (noMore (Another separator)))
           ≡ joined (follow s i y (λ c. map (before (c .0)) (chain (moreRules m) noMore (c .1))) (map last (noMore (Another separator)))) (rules m (s ++ 59 ∷ t) (suc (length s)))

@@ -68,20 +68,48 @@ part-kept s p n = go (ltb 4096 (length s)) (not (begins s p))
 module _ (s : List ℕ) where
   pub sheet-calls : (t : List ℤ) → SheetCalls t (sheetReading s t) (λ edition. sheetReadingIn edition s t)
   unfolding sheetReadingIn editionOf sheetReadingBy
-  sheet-calls t = record { first = refl; second = λ e. ap (written t) (sheet-kept s (length t) e); never = sheet-never s (length t); unknown = λ edition a b. rw (ne-eqb edition 1 a, ne-eqb edition 2 b) }
+  sheet-calls t =
+      record {
+        first = refl;
+        second = λ e. ap (written t) (sheet-kept s (length t) e);
+        never = sheet-never s (length t);
+        unknown = λ edition a b. rw
+            (ne-eqb edition 1 a, ne-eqb edition 2 b);
+      }
 
   pub sheet-bytes-calls : (t : List ℕ) → SheetCalls t (sheetReadingBytes s t) (λ edition. sheetReadingBytesIn edition s t)
   unfolding sheetReadingBytesIn editionOf sheetReadingBytesBy
-  sheet-bytes-calls t = record { first = refl; second = λ e. ap (writtenAs asBytes t) (sheet-kept s (wordsIn (length t)) e); never = sheet-never s (wordsIn (length t)); unknown = λ edition a b. rw (ne-eqb edition 1 a, ne-eqb edition 2 b) }
+  sheet-bytes-calls t =
+      record {
+        first = refl;
+        second = λ e. ap (writtenAs asBytes t) (sheet-kept s (wordsIn (length t)) e);
+        never = sheet-never s (wordsIn
+            (length t));
+        unknown = λ edition a b. rw (ne-eqb edition 1 a, ne-eqb edition 2 b);
+      }
 
   module _ (p : ℕ) where
     pub part-calls : (t : List ℤ) → PartCalls t (partReading s p t) (λ edition. partReadingIn edition s p t)
     unfolding partReadingIn editionOf partReadingBy
-    part-calls t = record { first = refl; second = λ e. ap (written t) (part-kept s p (length t) e); never = part-never s p (length t); unknown = λ edition a b. rw (ne-eqb edition 1 a, ne-eqb edition 2 b) }
+    part-calls t =
+        record {
+          first = refl;
+          second = λ e. ap (written t) (part-kept s p (length t) e);
+          never = part-never s p (length t);
+          unknown = λ edition a b. rw
+              (ne-eqb edition 1 a, ne-eqb edition 2 b);
+        }
 
     pub part-bytes-calls : (t : List ℕ) → PartCalls t (partReadingBytes s p t) (λ edition. partReadingBytesIn edition s p t)
     unfolding partReadingBytesIn editionOf partReadingBytesBy
-    part-bytes-calls t = record { first = refl; second = λ e. ap (writtenAs asBytes t) (part-kept s p (wordsIn (length t)) e); never = part-never s p (wordsIn (length t)); unknown = λ edition a b. rw (ne-eqb edition 1 a, ne-eqb edition 2 b) }
+    part-bytes-calls t =
+        record {
+          first = refl;
+          second = λ e. ap (writtenAs asBytes t) (part-kept s p (wordsIn (length t)) e);
+          never = part-never s p (wordsIn
+              (length t));
+          unknown = λ edition a b. rw (ne-eqb edition 1 a, ne-eqb edition 2 b);
+        }
 
 -- the calls for C: what they say in edition 1, and in edition 2 of what edition 1 accepts, is what those without an edition say
 module _ (s t : List ℕ) where

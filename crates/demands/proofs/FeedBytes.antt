@@ -51,7 +51,14 @@ module _ (u : List ℤ) (past : List ℕ) (p : ℕ) (d : length u ≡ p * 4) (g 
   room = rw (length-append, length-bytes w) (omega arith)
 
   -- the same numbers, the bytes of both tables of words afterwards, and the same bytes after them
-  pub feed-as-words : (s : List ℕ) → feedReadingBytes s (recordBytes u ++ past) (recordBytes w ++ rest) ≡ (feedReading s u w .0, (recordBytes (feedReading s u w .1 .0) ++ past, recordBytes (feedReading s u w .1 .1) ++ rest))
+  pub feed-as-words : (s : List ℕ) → feedReadingBytes s (recordBytes u ++ past) (recordBytes w ++ rest) ≡ (
+    feedReading s u w .0,
+    (
+      recordBytes
+          (feedReading s u w .1 .0) ++ past,
+      recordBytes (feedReading s u w .1 .1) ++ rest,
+    ),
+  )
   unfolding feedReadingBytes feedReading
   feed-as-words s =
       let r = feedOf s (length u / 4) (length w) in

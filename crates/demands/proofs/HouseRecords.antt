@@ -29,20 +29,21 @@ use Rattle.demands.specs.Houses.{AtMost, Less, word, IsHead, IsSpan, Sta
 
 -- the record of a span of these times
 abbrev spanRecord : Time → Time → Repeat → Bool → Bool → ℕ → List ℤ
-spanRecord t u r plus alone p = set (record16 (pos 8 ∷ timeWords t ++ timeWords u ++ (repeatWord r ∷ bit plus ∷ bit alone ∷ []))) 15 (pos p)
+spanRecord t u r «open_end» alone p = set (record16 (pos 8 ∷ timeWords t ++ timeWords u ++ (repeatWord r ∷ bit «open_end» ∷ bit alone ∷ []))) 15 (pos p)
 
 -- what the sentences say of a span, they say of its record
-to-record : (t u : Time) (r : Repeat) (plus alone : Bool) (p : ℕ) → Clock t → Clock u → r ≡ Never → plus ≡ false → minutes t < minutes u → SpanKeeps (spanRecord t u r plus alone p)
+to-record : (t u : Time) (r : Repeat) («open_end» alone : Bool) (p : ℕ) → Clock t → Clock u → r ≡ Never → «open_end» ≡ false → minutes t < minutes u → SpanKeeps (spanRecord t u r «open_end» alone p)
 unfolding minutes
-to-record (Fixed a) (Fixed b) r plus alone p h k e f l = rw (e, f) (record { clock-start = refl; clock-end = refl; start-midnight = h; end-midnight = k; no-repeat = refl; no-open-end = refl; forward = l })
-to-record (Fixed a) (Dawn m) r plus alone p h k e f l = absurd k
-to-record (Fixed a) (Sunrise m) r plus alone p h k e f l = absurd k
-to-record (Fixed a) (Sunset m) r plus alone p h k e f l = absurd k
-to-record (Fixed a) (Dusk m) r plus alone p h k e f l = absurd k
-to-record (Dawn m) u r plus alone p h k e f l = absurd h
-to-record (Sunrise m) u r plus alone p h k e f l = absurd h
-to-record (Sunset m) u r plus alone p h k e f l = absurd h
-to-record (Dusk m) u r plus alone p h k e f l = absurd h
+to-record (Fixed a) (Fixed b) r «open_end» alone p h k e f l =
+    rw (e, f) (record { clock-start = refl; clock-end = refl; start-midnight = h; end-midnight = k; no-repeat = refl; no-open-end = refl; forward = l })
+to-record (Fixed a) (Dawn m) r «open_end» alone p h k e f l = absurd k
+to-record (Fixed a) (Sunrise m) r «open_end» alone p h k e f l = absurd k
+to-record (Fixed a) (Sunset m) r «open_end» alone p h k e f l = absurd k
+to-record (Fixed a) (Dusk m) r «open_end» alone p h k e f l = absurd k
+to-record (Dawn m) u r «open_end» alone p h k e f l = absurd h
+to-record (Sunrise m) u r «open_end» alone p h k e f l = absurd h
+to-record (Sunset m) u r «open_end» alone p h k e f l = absurd h
+to-record (Dusk m) u r «open_end» alone p h k e f l = absurd h
 
 -- two numbers that differ are not one word
 two-words : {a b : ℕ} → (a ≡ b → ⊥) → pos a ≡ pos b → ⊥
@@ -57,45 +58,46 @@ closed-of true e = absurd (two-words {a = 1} {b = 0} (λ q. omega arith) e)
 closed-of false e = refl
 
 -- and what they say of the record, of the span
-record SpanSentences (t u : Time) (r : Repeat) (plus : Bool) : Type 0 where
+record SpanSentences (t u : Time) (r : Repeat) («open_end» : Bool) : Type 0 where
   start : Clock t
   end : Clock u
   once : r ≡ Never
-  closed : plus ≡ false
+  closed : «open_end» ≡ false
   forward : minutes t < minutes u
 
-of-record : (t u : Time) (r : Repeat) (plus alone : Bool) (p : ℕ) → SpanKeeps (spanRecord t u r plus alone p) → SpanSentences t u r plus
+of-record : (t u : Time) (r : Repeat) («open_end» alone : Bool) (p : ℕ) → SpanKeeps (spanRecord t u r «open_end» alone p) → SpanSentences t u r «open_end»
 unfolding minutes
-of-record (Fixed a) (Fixed b) r plus alone p k = record { start = k .start-midnight; end = k .end-midnight; once = never-of r (k .no-repeat); closed = closed-of plus (k .no-open-end); forward = k .forward }
-of-record (Fixed a) (Dawn m) r plus alone p k = absurd (two-words {a = 1} {b = 0} (λ q. omega arith) (k .clock-end))
-of-record (Fixed a) (Sunrise m) r plus alone p k = absurd (two-words {a = 2} {b = 0} (λ q. omega arith) (k .clock-end))
-of-record (Fixed a) (Sunset m) r plus alone p k = absurd (two-words {a = 3} {b = 0} (λ q. omega arith) (k .clock-end))
-of-record (Fixed a) (Dusk m) r plus alone p k = absurd (two-words {a = 4} {b = 0} (λ q. omega arith) (k .clock-end))
-of-record (Dawn m) u r plus alone p k = absurd (two-words {a = 1} {b = 0} (λ q. omega arith) (k .clock-start))
-of-record (Sunrise m) u r plus alone p k = absurd (two-words {a = 2} {b = 0} (λ q. omega arith) (k .clock-start))
-of-record (Sunset m) u r plus alone p k = absurd (two-words {a = 3} {b = 0} (λ q. omega arith) (k .clock-start))
-of-record (Dusk m) u r plus alone p k = absurd (two-words {a = 4} {b = 0} (λ q. omega arith) (k .clock-start))
+of-record (Fixed a) (Fixed b) r «open_end» alone p k =
+    record { start = k .start-midnight; end = k .end-midnight; once = never-of r (k .no-repeat); closed = closed-of «open_end» (k .no-open-end); forward = k .forward }
+of-record (Fixed a) (Dawn m) r «open_end» alone p k = absurd (two-words {a = 1} {b = 0} (λ q. omega arith) (k .clock-end))
+of-record (Fixed a) (Sunrise m) r «open_end» alone p k = absurd (two-words {a = 2} {b = 0} (λ q. omega arith) (k .clock-end))
+of-record (Fixed a) (Sunset m) r «open_end» alone p k = absurd (two-words {a = 3} {b = 0} (λ q. omega arith) (k .clock-end))
+of-record (Fixed a) (Dusk m) r «open_end» alone p k = absurd (two-words {a = 4} {b = 0} (λ q. omega arith) (k .clock-end))
+of-record (Dawn m) u r «open_end» alone p k = absurd (two-words {a = 1} {b = 0} (λ q. omega arith) (k .clock-start))
+of-record (Sunrise m) u r «open_end» alone p k = absurd (two-words {a = 2} {b = 0} (λ q. omega arith) (k .clock-start))
+of-record (Sunset m) u r «open_end» alone p k = absurd (two-words {a = 3} {b = 0} (λ q. omega arith) (k .clock-start))
+of-record (Dusk m) u r «open_end» alone p k = absurd (two-words {a = 4} {b = 0} (λ q. omega arith) (k .clock-start))
 
 -- the words of its start and end are their minutes
-start-word : (t u : Time) (r : Repeat) (plus alone : Bool) (p : ℕ) → Clock t → word 2 (spanRecord t u r plus alone p) ≡ pos (minutes t)
+start-word : (t u : Time) (r : Repeat) («open_end» alone : Bool) (p : ℕ) → Clock t → word 2 (spanRecord t u r «open_end» alone p) ≡ pos (minutes t)
 unfolding minutes
-start-word (Fixed a) u r plus alone p h = refl
-start-word (Dawn m) u r plus alone p h = absurd h
-start-word (Sunrise m) u r plus alone p h = absurd h
-start-word (Sunset m) u r plus alone p h = absurd h
-start-word (Dusk m) u r plus alone p h = absurd h
+start-word (Fixed a) u r «open_end» alone p h = refl
+start-word (Dawn m) u r «open_end» alone p h = absurd h
+start-word (Sunrise m) u r «open_end» alone p h = absurd h
+start-word (Sunset m) u r «open_end» alone p h = absurd h
+start-word (Dusk m) u r «open_end» alone p h = absurd h
 
-end-word : (t u : Time) (r : Repeat) (plus alone : Bool) (p : ℕ) → Clock t → Clock u → word 4 (spanRecord t u r plus alone p) ≡ pos (minutes u)
+end-word : (t u : Time) (r : Repeat) («open_end» alone : Bool) (p : ℕ) → Clock t → Clock u → word 4 (spanRecord t u r «open_end» alone p) ≡ pos (minutes u)
 unfolding minutes
-end-word (Fixed a) (Fixed b) r plus alone p h k = refl
-end-word (Fixed a) (Dawn m) r plus alone p h k = absurd k
-end-word (Fixed a) (Sunrise m) r plus alone p h k = absurd k
-end-word (Fixed a) (Sunset m) r plus alone p h k = absurd k
-end-word (Fixed a) (Dusk m) r plus alone p h k = absurd k
-end-word (Dawn m) u r plus alone p h k = absurd h
-end-word (Sunrise m) u r plus alone p h k = absurd h
-end-word (Sunset m) u r plus alone p h k = absurd h
-end-word (Dusk m) u r plus alone p h k = absurd h
+end-word (Fixed a) (Fixed b) r «open_end» alone p h k = refl
+end-word (Fixed a) (Dawn m) r «open_end» alone p h k = absurd k
+end-word (Fixed a) (Sunrise m) r «open_end» alone p h k = absurd k
+end-word (Fixed a) (Sunset m) r «open_end» alone p h k = absurd k
+end-word (Fixed a) (Dusk m) r «open_end» alone p h k = absurd k
+end-word (Dawn m) u r «open_end» alone p h k = absurd h
+end-word (Sunrise m) u r «open_end» alone p h k = absurd h
+end-word (Sunset m) u r «open_end» alone p h k = absurd h
+end-word (Dusk m) u r «open_end» alone p h k = absurd h
 
 -- ---- an item's record
 
@@ -131,25 +133,25 @@ ItemKeeps a = Spanned Form a × Spanned Forward a
 
 item-to : (a : Placed) → View a → ItemKeeps a → IsSpan (itemRecord a) → SpanKeeps (itemRecord a)
 unfolding itemRecord wordsOf
-item-to _ (span x p) h e = to-record (x .start) (x .end) (x .repeats) (x .plus) (x .point) p (h .0 .start) (h .0 .end) (h .0 .once) (h .0 .closed) (h .1)
+item-to _ (span x p) h e = to-record (x .start) (x .end) (x .repeats) (x .«open_end») (x .point) p (h .0 .start) (h .0 .end) (h .0 .once) (h .0 .closed) (h .1)
 item-to _ (other f g) h e = absurd (f e)
 
 item-of : (a : Placed) → View a → (IsSpan (itemRecord a) → SpanKeeps (itemRecord a)) → ItemKeeps a
 unfolding itemRecord wordsOf
 item-of _ (span x p) h =
-    let k = of-record (x .start) (x .end) (x .repeats) (x .plus) (x .point) p (h refl) in
+    let k = of-record (x .start) (x .end) (x .repeats) (x .«open_end») (x .point) p (h refl) in
     (record { start = k .start; end = k .end; once = k .once; closed = k .closed }, k .forward)
 item-of _ (other f g) h = (g Form, g Forward)
 
 -- that it starts no earlier than e
 after-to : (e : ℕ) (a : Placed) → View a → Spanned Form a → Spanned (After e) a → IsSpan (itemRecord a) → AtMost (pos e) (word 2 (itemRecord a))
 unfolding itemRecord wordsOf
-after-to e _ (span x p) f h i = rw (start-word (x .start) (x .end) (x .repeats) (x .plus) (x .point) p (f .start)) h
+after-to e _ (span x p) f h i = rw (start-word (x .start) (x .end) (x .repeats) (x .«open_end») (x .point) p (f .start)) h
 after-to e _ (other k g) f h i = absurd (k i)
 
 after-of : (e : ℕ) (a : Placed) → View a → Spanned Form a → (IsSpan (itemRecord a) → AtMost (pos e) (word 2 (itemRecord a))) → Spanned (After e) a
 unfolding itemRecord wordsOf
-after-of e _ (span x p) f h = rw (start-word (x .start) (x .end) (x .repeats) (x .plus) (x .point) p (f .start)) at (h refl)
+after-of e _ (span x p) f h = rw (start-word (x .start) (x .end) (x .repeats) (x .«open_end») (x .point) p (f .start)) at (h refl)
 after-of e _ (other k g) f h = g (After e)
 
 -- ---- items
@@ -166,18 +168,20 @@ starts-of e (a ∷ l) rs f (inr h) = (after-of e a (view (a .0) (a .1)) (f .0) (
 
 -- the records of items, and records rs after them, of which the first is a head
 module _ (rs : List (List ℤ)) (headed : (e : ℤ) → StartAfter e rs) where
-  rising-item : (a : Placed) → View a → (l : List Placed) → Spanned Form a → Each (Spanned Form) l → Spanned (λ x. Each (Spanned (After (minutes (x .end)))) l) a → IsSpan (itemRecord a) → StartAfter (word 4 (itemRecord a)) (map itemRecord l ++ rs)
+  rising-item : (a : Placed) → View a → (l : List Placed) → Spanned Form a → Each (Spanned Form) l → Spanned (λ x. Each (Spanned (After (minutes (x .end)))) l) a →
+      IsSpan (itemRecord a) → StartAfter (word 4 (itemRecord a)) (map itemRecord l ++ rs)
   unfolding itemRecord wordsOf
-  rising-item _ (span x p) l f g h i = rw (end-word (x .start) (x .end) (x .repeats) (x .plus) (x .point) p (f .start) (f .end)) (starts-to (minutes (x .end)) l rs g h (headed _))
+  rising-item _ (span x p) l f g h i = rw (end-word (x .start) (x .end) (x .repeats) (x .«open_end») (x .point) p (f .start) (f .end)) (starts-to (minutes (x .end)) l rs g h (headed _))
   rising-item _ (other k g) l f o h i = absurd (k i)
 
   rising-to : (l : List Placed) → Each (Spanned Form) l → profile.Rising l → Rising rs → Rising (map itemRecord l ++ rs)
   rising-to [] f h k = k
   rising-to (a ∷ l) f h k = (rising-item a (view (a .0) (a .1)) l (f .0) (f .1) (h .0), rising-to l (f .1) (h .1) k)
 
-  item-rising : (a : Placed) → View a → (l : List Placed) → Spanned Form a → Each (Spanned Form) l → (IsSpan (itemRecord a) → StartAfter (word 4 (itemRecord a)) (map itemRecord l ++ rs)) → Spanned (λ x. Each (Spanned (After (minutes (x .end)))) l) a
+  item-rising : (a : Placed) → View a → (l : List Placed) → Spanned Form a → Each (Spanned Form) l → (IsSpan (itemRecord a) →
+      StartAfter (word 4 (itemRecord a)) (map itemRecord l ++ rs)) → Spanned (λ x. Each (Spanned (After (minutes (x .end)))) l) a
   unfolding itemRecord wordsOf
-  item-rising _ (span x p) l f g h = starts-of (minutes (x .end)) l rs g (rw (end-word (x .start) (x .end) (x .repeats) (x .plus) (x .point) p (f .start) (f .end)) at (h refl))
+  item-rising _ (span x p) l f g h = starts-of (minutes (x .end)) l rs g (rw (end-word (x .start) (x .end) (x .repeats) (x .«open_end») (x .point) p (f .start) (f .end)) at (h refl))
   item-rising _ (other k g) l f o h = g _
 
   rising-of : (l : List Placed) → Each (Spanned Form) l → Rising (map itemRecord l ++ rs) → profile.Rising l × Rising rs

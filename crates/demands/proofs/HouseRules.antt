@@ -16,7 +16,7 @@ use Rattle.items.specs.declared.Kind.{Kind}
 use Rattle.items.specs.declared.Kind.the-variants.{Years, MonthDays, Weeks, WeekNumbers, Weekdays, LastWeekdays, Holidays, LastHolidays, Times}
 use Rattle.rules.specs.Rows.{small, first, listed, following}
 use Rattle.rules.specs.Pieces.{goesOn, colon, more, end}
-use Rattle.rules.specs.Rules.{Rule, behind, rule}
+use Rattle.rules.specs.Rules.{Rule, afterOpening, rule}
 use Rattle.rules.specs.declared.Next.{Next}
 use Rattle.rules.specs.declared.Next.the-variants.{Another, Finished}
 use Rattle.rules.specs.declared.Stage.{Stage}
@@ -65,7 +65,7 @@ more-same Colon = rw (item-same small)
 more-same (After k) = rw (item-same (listed k), item-same small, item-same (following k))
 
 rule-same : (separator : ℕ) → rule House separator ≡ rule First separator
-unfolding rule behind
+unfolding rule afterOpening
 rule-same separator = rw (fun-ext more-same)
 
 next-same : (x : Next) → moreRules House x ≡ moreRules First x

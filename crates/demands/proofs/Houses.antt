@@ -90,7 +90,8 @@ part-refused k h = record { accepted = λ e. absurd (omega arith); accepts = λ 
 next-part : (s : List ℕ) (e : ℕ) (house first : Answer × List (List ℤ)) → Same house first → SamePart (withNext s e (house .0), house .1) (withNext s e (first .0), first .1)
 next-part s e house first h =
     let number : (r : Answer × List (List ℤ)) → withNext s e (r .0) .number ≡ r .0 .number = λ r. next-same s e (r .0) in
-    let whole : house ≡ first → _≡_ {A = PartAnswer × List (List ℤ)} (withNext s e (house .0), house .1) (withNext s e (first .0), first .1) = λ q. ap (λ (r : Answer × List (List ℤ)). (withNext s e (r .0), r .1)) q in
+    let whole : house ≡ first → _≡_ {A = PartAnswer × List (List ℤ)} (withNext s e (house .0), house .1) (withNext s e (first .0), first .1) = λ q. ap (λ
+    (r : Answer × List (List ℤ)). (withNext s e (r .0), r .1)) q in
     record {
       accepted = λ a. let k = h .accepted (sym (number house) ∙ a) in (whole (k .0), k .1);
       accepts = λ a b. whole (h .accepts (sym (number first) ∙ a) b);

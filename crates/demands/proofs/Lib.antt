@@ -16,7 +16,7 @@ pub mod Opened
 pub mod Proved
 pub mod Numbers
 pub mod Refusals
-pub mod Apart
+pub mod OneAnswer
 pub mod Feeds
 pub mod FeedBytes
 pub mod ProvedFeeds

@@ -1,7 +1,7 @@
 -- Every definition open: a statement that says `unfolding opened` computes with all of them.
 use Rattle.names.specs.Chain.{chainIn, chain, many, skip}
 use Rattle.names.specs.Names.{names, spelledSo, lower, letter, firstOf, word, name}
-use Rattle.names.specs.Numbers.{isDigit, digit, upTo, digits, clockBehind, number}
+use Rattle.names.specs.Numbers.{isDigit, digit, upTo, digits, clockAfter, number}
 use Rattle.names.specs.Quotes.{insideOf}
 use Rattle.names.specs.Read.{one, ahead, atEnd}
 use Rattle.names.specs.Spellings.{allSmall, written, spelt, warns}
@@ -11,19 +11,20 @@ use Rattle.calendar.specs.Calendar.{leap, lastOfFebruary, hasThirty, lastOf, is
 use Rattle.records.specs.Tables.{laid}
 use Rattle.records.specs.Words.{wordsOf}
 use Rattle.times.specs.Meanings.{eventOf, dayClock, endClock, repeatClock, spanMeaning}
-use Rattle.times.specs.Spans.{repeated, tail, untilTime, spanBehind, spanShape, timeItem, eventItemBehind}
-use Rattle.times.specs.Times.{clock, moved, movedEvent, rawTime}
+use Rattle.times.specs.Spans.{repeated, tail, untilTime, spanAfter, spanShape, timeItem, eventItemAfter}
+use Rattle.times.specs.Times.{clock, withOffset, eventWithOffset, rawTime}
 use Rattle.days.specs.Entries.{backEntry, frontEntry, entry, nextEntry, setAll, goodEntry, marked, markedAll, entries, bits}
-use Rattle.days.specs.Holidays.{holidayBehind, holidayShape, holidayMeaning, holidayItem, holidayItemBehind}
+use Rattle.days.specs.Holidays.{holidayAfter, holidayShape, holidayMeaning, holidayItem, holidayItemAfter}
 use Rattle.days.specs.Offsets.{plusOrMinus, dayOffset, anyDays, wdayOffset, offset}
-use Rattle.days.specs.Weekdays.{lastWeekday, bracketed, untilWeekday, withEntries, narrowBehind, wideBehind, weekdayShape, flagged, weekdayMeaning, weekdayItem, weekdayItemBehind}
-use Rattle.dates.specs.Dates.{optionalYear, backNth, frontNth, nth, weekdayOf, dayOf, dayBehind, date}
-use Rattle.dates.specs.Ends.{untilDate, bareDay, until, endShape, datesBehind}
-use Rattle.dates.specs.Meanings.{nextYear, nextMonth, monthFrom, firstWith, bareEnd, lastDay, dateMeaning, monthMeaning}
-use Rattle.dates.specs.MonthDays.{lastMonth, monthBehind, monthItemBehind, dateItemBehind, monthDayBehind, monthDayItem}
+use Rattle.days.specs.Weekdays.{lastWeekday, bracketed, untilWeekday, withEntries, narrowAfter, wideAfter, weekdayShape, flagged, weekdayMeaning, weekdayItem, weekdayItemAfter}
+use Rattle.dates.specs.Dates.{optionalYear, backNth, frontNth, nth, weekdayOf, dayOf, dayAfter, date}
+use Rattle.dates.specs.Ends.{untilDate, bareDay, until, endShape, datesAfter}
+use Rattle.dates.specs.BareEnds.{nextYear, nextMonth, monthFrom, firstWith, bareEnd, lastDay}
+use Rattle.dates.specs.Meanings.{dateMeaning, monthMeaning}
+use Rattle.dates.specs.MonthDays.{lastMonth, monthAfter, monthItemAfter, dateItemAfter, monthDayAfter, monthDayItem}
 use Rattle.dates.specs.Ranges.{stepped, untilLast, goodRange, stepOf}
 use Rattle.dates.specs.Weeks.{weekShape, weekMeaning, weekItem}
-use Rattle.dates.specs.Years.{yearBehind, yearShape, yearMeaning, yearItem, yearItemBehind}
+use Rattle.dates.specs.Years.{yearAfter, yearShape, yearMeaning, yearItem, yearItemAfter}
 use Rattle.utf8.specs.Utf8.{octet, utf8-tail, utf8-2, utf8-3, utf8-4, longer}
 use Rattle.utf8.specs.Letters.{isInner, plain, letter as letterOf, letters}
 use Rattle.rules.specs.Comments.{closed, illFormed, comment, commentApart}
@@ -33,7 +34,7 @@ use Rattle.rules.specs.Modifiers.{withComment, modifier}
 use Rattle.items.specs.Musts.{hasQuote, atBrokenQuote, missingAt, missing}
 use Rattle.rules.specs.Pieces.{goesOn, colonSign, colon, empty, more, plainEnd, end}
 use Rattle.rules.specs.Separators.{commaBlank, bars, separator, next, stop, ruleEnd}
-use Rattle.rules.specs.Rules.{always, wideComment, opening, wins, behind, rule}
+use Rattle.rules.specs.Rules.{always, wideComment, opening, wins, afterOpening, rule}
 use Rattle.sheet.specs.Heads.{headWords, itemRecord}
 use Rattle.sheet.specs.PartReadings.{withNext, partBy, partReadingBy}
 use Rattle.sheet.specs.Parts.{partIn, begins, partEnd, beginnings}
@@ -43,5 +44,14 @@ use Rattle.sheet.specs.Warnings.{isLetter, warningsIn}
 
 -- nothing, over the line that opens them
 unfoldable pub opened : Unit {0}
-unfolding chainIn chain many skip names spelledSo lower letter firstOf word name isDigit digit upTo digits clockBehind number insideOf one ahead atEnd allSmall written spelt warns within byte allOf blanks blank comma leap lastOfFebruary hasThirty lastOf isDay wordsOf dayClock endClock repeatClock eventOf spanMeaning repeated tail untilTime spanBehind spanShape timeItem eventItemBehind clock moved movedEvent rawTime backEntry frontEntry entry nextEntry setAll goodEntry marked markedAll entries bits holidayBehind holidayShape holidayMeaning holidayItem holidayItemBehind plusOrMinus dayOffset anyDays wdayOffset offset lastWeekday bracketed untilWeekday withEntries narrowBehind wideBehind weekdayShape flagged weekdayMeaning weekdayItem weekdayItemBehind optionalYear backNth frontNth nth weekdayOf dayOf dayBehind date untilDate bareDay until endShape datesBehind nextYear nextMonth monthFrom firstWith bareEnd lastDay dateMeaning monthMeaning lastMonth monthBehind monthItemBehind dateItemBehind monthDayBehind monthDayItem stepped untilLast goodRange stepOf weekShape weekMeaning weekItem yearBehind yearShape yearMeaning yearItem yearItemBehind octet utf8-tail utf8-2 utf8-3 utf8-4 longer isInner plain letterOf letters closed illFormed comment commentApart weeks itemOf itemIn listed following isWide goesOn colonSign colon headWords itemRecord withComment modifier hasQuote atBrokenQuote missingAt missing empty more plainEnd end always wideComment opening wins behind rule commaBlank bars separator next stop ruleEnd laid withNext partBy partReadingBy partIn begins partEnd beginnings textOf sheetBy sheetReadingBy parted moreRules noMore rules judgedRules records isLetter warningsIn
+unfolding chainIn chain many skip names spelledSo lower letter firstOf word name isDigit digit upTo digits clockAfter number insideOf one ahead atEnd allSmall written spelt warns
+    within byte allOf blanks blank comma leap lastOfFebruary hasThirty lastOf isDay wordsOf dayClock endClock repeatClock eventOf spanMeaning repeated tail untilTime spanAfter
+    spanShape timeItem eventItemAfter clock withOffset eventWithOffset rawTime backEntry frontEntry entry nextEntry setAll goodEntry marked markedAll entries bits holidayAfter
+    holidayShape holidayMeaning holidayItem holidayItemAfter plusOrMinus dayOffset anyDays wdayOffset offset lastWeekday bracketed untilWeekday withEntries narrowAfter wideAfter
+    weekdayShape flagged weekdayMeaning weekdayItem weekdayItemAfter optionalYear backNth frontNth nth weekdayOf dayOf dayAfter date untilDate bareDay until endShape datesAfter
+    nextYear nextMonth monthFrom firstWith bareEnd lastDay dateMeaning monthMeaning lastMonth monthAfter monthItemAfter dateItemAfter monthDayAfter monthDayItem stepped untilLast
+    goodRange stepOf weekShape weekMeaning weekItem yearAfter yearShape yearMeaning yearItem yearItemAfter octet utf8-tail utf8-2 utf8-3 utf8-4 longer isInner plain letterOf
+    letters closed illFormed comment commentApart weeks itemOf itemIn listed following isWide goesOn colonSign colon headWords itemRecord withComment modifier hasQuote
+    atBrokenQuote missingAt missing empty more plainEnd end always wideComment opening wins afterOpening rule commaBlank bars separator next stop ruleEnd laid withNext partBy
+    partReadingBy partIn begins partEnd beginnings textOf sheetBy sheetReadingBy parted moreRules noMore rules judgedRules records isLetter warningsIn
 opened = tt

@@ -1,4 +1,4 @@
--- A part of a text that stands behind u is answered as it is in its text, with the places moved; two moves are one, and a move by 0 is none.
+-- A part of a text that stands after u is answered as it is in its text, with the places moved; two moves are one, and a move by 0 is none.
 use Prim.Native.Nat.{ℕ, zero, suc, _+_, _≤_}
 use mathlib.Core.List.{List, [], _∷_, _++_, map}
 use mathlib.Core.Bool.{Bool, true, false}
@@ -126,7 +126,7 @@ next-still false n = omega arith
 pub part-still : (r : PartAnswer × List (List ℤ)) → movedPart 0 r ≡ r
 part-still r = rw (records-still (r .1), place-still (eqb (r .0 .number) 0) (r .0 .place), next-still (r .0 .last) (r .0 .next))
 
--- ---- a part behind u
+-- ---- a part after u
 
 -- where it ends
 end-move : (u t : List ℕ) (p : ℕ) → partEnd (u ++ t) (length u + p) ≡ length u + partEnd t p
@@ -134,7 +134,8 @@ unfolding partEnd
 end-move u t p = rw (drop-append-add u t p) (omega arith)
 
 -- the next part's place
-next-move : (u t : List ℕ) (e : ℕ) (r : Answer × List (List ℤ)) → (withNext (u ++ t) (length u + e) (movedReading (length u) r .0), movedReading (length u) r .1) ≡ movedPart (length u) (withNext t e (r .0), r .1)
+next-move : (u t : List ℕ) (e : ℕ) (r : Answer × List (List ℤ)) →
+    (withNext (u ++ t) (length u + e) (movedReading (length u) r .0), movedReading (length u) r .1) ≡ movedPart (length u) (withNext t e (r .0), r .1)
 unfolding withNext
 next-move u t e r = rw (length-append u t, ← add-suc (length u) e, compare-add (length u) (suc e) (length t)) (go (ltb e (length t)))
   where
@@ -145,8 +146,10 @@ next-move u t e r = rw (length-append u t, ← add-suc (length u) e, compare-add
     go false = refl
 
 -- the move law of a part
-pub part-move : (m : Manner) (u t : List ℕ) (p n : ℕ) → length (u ++ t) ≤ 4096 → begins (u ++ t) (length u + p) ≡ true → begins t p ≡ true → partBy m (u ++ t) (length u + p) n ≡ movedPart (length u) (partBy m t p n)
+pub part-move : (m : Manner) (u t : List ℕ) (p n : ℕ) → length (u ++ t) ≤ 4096 → begins (u ++ t) (length u + p) ≡ true → begins t p ≡ true →
+    partBy m (u ++ t) (length u + p) n ≡ movedPart (length u) (partBy m t p n)
 unfolding partBy
 part-move m u t p n h b b₂ =
     let l : length t ≤ 4096 = omega (arith, length-append u t) in
-    rw (le-ltb 4096 (length (u ++ t)) h, le-ltb 4096 (length t) l, b, b₂, end-move u t p, take-append-add u t (partEnd t p), text-move m u (take (partEnd t p) t) p n) (next-move u t (partEnd t p) (textOf m (take (partEnd t p) t) p n))
+    rw (le-ltb 4096 (length (u ++ t)) h, le-ltb 4096 (length t) l, b, b₂, end-move u t p, take-append-add u t (partEnd t p), text-move m u (take (partEnd t p) t) p n)
+    (next-move u t (partEnd t p) (textOf m (take (partEnd t p) t) p n))

@@ -33,7 +33,7 @@ among-skip s a (suc k) m h =
     let e : suc a + k ≡ a + suc k = omega arith in
     rw (suc-add k m, h a (omega arith) (omega arith), ← e) (among-skip s (suc a) k m (λ q l g. h q (omega arith) (omega arith)))
 
--- the places of the part at p and of those behind it
+-- the places of the part at p and of those after it
 abbrev pub placesFrom : List ℕ → ℕ → List ℕ
 placesFrom s p = among s p (suc (length s) - p)
 
@@ -42,7 +42,7 @@ pub places-all : (s : List ℕ) → places s ≡ placesFrom s 0
 unfolding beginnings
 places-all s = ap (beginnings s) (sym (zero-add (suc (length s)))) ∙ sym (among-add s 0 (suc (length s))) ∙ ap (among s 0) (sym (sub-zero (suc (length s))))
 
--- the part at p, and those behind the `;` that ends it
+-- the part at p, and those after the `;` that ends it
 pub places-next : (s : List ℕ) (p : ℕ) → begins s p ≡ true → placesFrom s p ≡ p ∷ placesFrom s (suc (partEnd s p))
 places-next s p b =
     let e = partEnd s p in
@@ -52,6 +52,6 @@ places-next s p b =
     let n : suc p + (e - p) ≡ suc e = omega arith in
     rw (m, b) (ap (λ (r : List ℕ). p ∷ r) (among-skip s (suc p) (e - p) (suc (length s) - suc e) (λ q i j. begins-none s p q b i (omega arith)) ∙ ap (λ (a : ℕ). among s a (suc (length s) - suc e)) n))
 
--- behind the text there is none
+-- after the text there is none
 pub places-none : (s : List ℕ) (p : ℕ) → length s < p → placesFrom s p ≡ []
 places-none s p h = let e : suc (length s) - p ≡ 0 = omega arith in rw e

@@ -10,22 +10,22 @@ use Rattle.names.specs.Tests.{if_then_else_}
 use Rattle.names.specs.Read.{Read, got, none, refused, Reader, follow, branch, nothing, pure, refuse, here, when, only, one, ahead, atEnd, _or_}
 use Rattle.names.specs.Chain.{before, last, chainIn, chain, many, skip}
 use Rattle.names.specs.Texts.{byte, allOf, blanks, blank, comma}
-use Rattle.names.specs.Numbers.{isDigit, digit, enough, upTo, digits, clockBehind, number}
+use Rattle.names.specs.Numbers.{isDigit, digit, enough, upTo, digits, clockAfter, number}
 use Rattle.names.specs.Names.{Row, names, letter, firstOf, word, name, weekday, event, holiday, day}
 use Rattle.names.specs.Names as names
 use Rattle.names.specs.declared.Manner.the-variants.{Second}
 use Rattle.records.specs.Items.{judged, meant, item}
 use Rattle.records.specs.declared.Meant.{Meant}
 use Rattle.records.specs.declared.Meant.the-variants.{Is, Refused}
-use Rattle.times.specs.Times.{clock, moved, movedEvent, rawTime}
-use Rattle.times.specs.Spans.{repeated, tail, untilTime, spanBehind, spanShape, timeItem}
+use Rattle.times.specs.Times.{clock, withOffset, eventWithOffset, rawTime}
+use Rattle.times.specs.Spans.{repeated, tail, untilTime, spanAfter, spanShape, timeItem}
 use Rattle.times.specs.Meanings.{goodSpan, spanOf, spanMeaning}
 use Rattle.times.specs.declared.RawTime.{RawTime}
 use Rattle.times.specs.Shapes.{RawSpan, Alone, Open, Until}
 use Rattle.days.specs.Offsets.{plusOrMinus, dayOffset, anyDays, wdayOffset, offset, goodDays, daysOf}
 use Rattle.days.specs.Entries.{backEntry, frontEntry, entry, nextEntry, entries, bits}
-use Rattle.days.specs.Weekdays.{lastWeekday, bracketed, wideBehind, weekdayShape, flagged, weekdayMeaning, weekdayItem}
-use Rattle.days.specs.Holidays.{holidayBehind, holidayShape, holidayMeaning, holidayItem}
+use Rattle.days.specs.Weekdays.{lastWeekday, bracketed, wideAfter, weekdayShape, flagged, weekdayMeaning, weekdayItem}
+use Rattle.days.specs.Holidays.{holidayAfter, holidayShape, holidayMeaning, holidayItem}
 use Rattle.days.specs.declared.RawWeekdays.{RawWeekdays}
 use Rattle.days.specs.declared.RawHoliday.{RawHoliday}
 
@@ -147,13 +147,13 @@ digits-tells : (l m : ℕ) → Tells (digits l m)
 unfolding digits
 digits-tells l m = upTo-tells m l 0
 
-clockBehind-tells : Tells clockBehind
-unfolding clockBehind
-clockBehind-tells = then-tells (skip-tells isDigit) (λ _. then-tells (byte-tells 58) (λ _. ahead-tells isDigit))
+clockAfter-tells : Tells clockAfter
+unfolding clockAfter
+clockAfter-tells = then-tells (skip-tells isDigit) (λ _. then-tells (byte-tells 58) (λ _. ahead-tells isDigit))
 
 pub number-tells : (l m : ℕ) → Tells (number l m)
 unfolding number
-number-tells l m = then-tells (digits-tells l m) (λ a. then-tells (branch-tells clockBehind-tells (λ _. nothing-tells) (pure-tells tt)) (λ _. pure-tells a))
+number-tells l m = then-tells (digits-tells l m) (λ a. then-tells (branch-tells clockAfter-tells (λ _. nothing-tells) (pure-tells tt)) (λ _. pure-tells a))
 
 firstOf-tells : (rs : List Row) → Tells (firstOf rs)
 unfolding firstOf
@@ -194,17 +194,17 @@ clock-tells : Tells clock
 unfolding clock
 clock-tells = then-tells (digits-tells 1 2) (λ h. then-tells (byte-tells 58) (λ _. then-tells (digits-tells 2 2) (λ m. pure-tells _)))
 
-moved-tells : (e : ℕ) → Tells (moved e)
-unfolding moved
-moved-tells e = or-tells (then-tells (byte-tells 43) (λ _. then-tells clock-tells (λ c. pure-tells _))) (then-tells (byte-tells 45) (λ _. then-tells clock-tells (λ c. pure-tells _)))
+withOffset-tells : (e : ℕ) → Tells (withOffset e)
+unfolding withOffset
+withOffset-tells e = or-tells (then-tells (byte-tells 43) (λ _. then-tells clock-tells (λ c. pure-tells _))) (then-tells (byte-tells 45) (λ _. then-tells clock-tells (λ c. pure-tells _)))
 
-movedEvent-tells : Tells movedEvent
-unfolding movedEvent
-movedEvent-tells = then-tells (byte-tells 40) (λ _. then-tells (name-tells event) (λ e. then-tells (moved-tells e) (λ t. then-tells (byte-tells 41) (λ _. pure-tells t))))
+eventWithOffset-tells : Tells eventWithOffset
+unfolding eventWithOffset
+eventWithOffset-tells = then-tells (byte-tells 40) (λ _. then-tells (name-tells event) (λ e. then-tells (withOffset-tells e) (λ t. then-tells (byte-tells 41) (λ _. pure-tells t))))
 
 rawTime-tells : Tells rawTime
 unfolding rawTime
-rawTime-tells = or-tells (then-tells clock-tells (λ c. pure-tells _)) (or-tells (then-tells (name-tells event) (λ e. pure-tells _)) movedEvent-tells)
+rawTime-tells = or-tells (then-tells clock-tells (λ c. pure-tells _)) (or-tells (then-tells (name-tells event) (λ e. pure-tells _)) eventWithOffset-tells)
 
 repeated-tells : Tells repeated
 unfolding repeated
@@ -218,13 +218,13 @@ untilTime-tells : (start : RawTime) → Tells (untilTime start)
 unfolding untilTime
 untilTime-tells start = then-tells (byte-tells 45) (λ _. then-tells rawTime-tells (λ end. then-tells tail-tells (λ t. pure-tells _)))
 
-spanBehind-tells : (start : RawTime) → Tells (spanBehind start)
-unfolding spanBehind
-spanBehind-tells start = or-tells (then-tells (byte-tells 43) (λ _. pure-tells _)) (or-tells (untilTime-tells start) (pure-tells _))
+spanAfter-tells : (start : RawTime) → Tells (spanAfter start)
+unfolding spanAfter
+spanAfter-tells start = or-tells (then-tells (byte-tells 43) (λ _. pure-tells _)) (or-tells (untilTime-tells start) (pure-tells _))
 
 spanShape-tells : Tells spanShape
 unfolding spanShape
-spanShape-tells = then-tells rawTime-tells spanBehind-tells
+spanShape-tells = then-tells rawTime-tells spanAfter-tells
 
 -- here a time alone is a span
 span-other : (r : RawSpan) → OtherMeant (spanMeaning Second r)
@@ -248,7 +248,9 @@ plusOrMinus-tells = or-tells (then-tells (byte-tells 43) (λ _. pure-tells false
 
 dayOffset-tells : Tells dayOffset
 unfolding dayOffset
-dayOffset-tells = then-tells blank-tells (λ _. then-tells plusOrMinus-tells (λ less. then-tells (number-tells 1 5) (λ n. then-tells blank-tells (λ _. then-tells (name-tells day) (λ _. pure-tells _)))))
+dayOffset-tells =
+    then-tells blank-tells (λ _. then-tells plusOrMinus-tells (λ negative. then-tells (number-tells 1 5) (λ n. then-tells blank-tells (λ _. then-tells (name-tells day)
+    (λ _. pure-tells _)))))
 
 anyDays-tells : Tells anyDays
 unfolding anyDays
@@ -256,7 +258,7 @@ anyDays-tells = or-tells dayOffset-tells (pure-tells _)
 
 wdayOffset-tells : Tells wdayOffset
 unfolding wdayOffset
-wdayOffset-tells = then-tells plusOrMinus-tells (λ less. then-tells (name-tells weekday) (λ w. pure-tells _))
+wdayOffset-tells = then-tells plusOrMinus-tells (λ negative. then-tells (name-tells weekday) (λ w. pure-tells _))
 
 pub offset-tells : Tells offset
 unfolding offset
@@ -290,13 +292,13 @@ bracketed-tells : Tells bracketed
 unfolding bracketed
 bracketed-tells = then-tells (byte-tells 91) (λ _. then-tells entries-tells (λ m. then-tells (byte-tells 93) (λ _. pure-tells m)))
 
-wideBehind-tells : (first : ℕ) → Tells (wideBehind first)
-unfolding wideBehind
-wideBehind-tells first = then-tells (or-tells lastWeekday-tells (pure-tells first)) (λ last. then-tells (or-tells bracketed-tells (pure-tells _)) (λ m. then-tells anyDays-tells (λ d. pure-tells _)))
+wideAfter-tells : (first : ℕ) → Tells (wideAfter first)
+unfolding wideAfter
+wideAfter-tells first = then-tells (or-tells lastWeekday-tells (pure-tells first)) (λ last. then-tells (or-tells bracketed-tells (pure-tells _)) (λ m. then-tells anyDays-tells (λ d. pure-tells _)))
 
 weekdayShape-tells : Tells (weekdayShape Second)
 unfolding weekdayShape
-weekdayShape-tells = then-tells (name-tells weekday) wideBehind-tells
+weekdayShape-tells = then-tells (name-tells weekday) wideAfter-tells
 
 weekday-other : (r : RawWeekdays) → OtherMeant (weekdayMeaning r)
 unfolding weekdayMeaning flagged
@@ -308,13 +310,13 @@ pub weekdayItem-tells : Tells (weekdayItem Second)
 unfolding weekdayItem
 weekdayItem-tells = item-tells weekdayShape-tells weekdayMeaning weekday-other
 
-holidayBehind-tells : (kind : ℕ) → Tells (holidayBehind kind)
-unfolding holidayBehind
-holidayBehind-tells kind = then-tells anyDays-tells (λ d. pure-tells _)
+holidayAfter-tells : (kind : ℕ) → Tells (holidayAfter kind)
+unfolding holidayAfter
+holidayAfter-tells kind = then-tells anyDays-tells (λ d. pure-tells _)
 
 holidayShape-tells : Tells holidayShape
 unfolding holidayShape
-holidayShape-tells = then-tells (name-tells holiday) holidayBehind-tells
+holidayShape-tells = then-tells (name-tells holiday) holidayAfter-tells
 
 holiday-other : (r : RawHoliday) → OtherMeant (holidayMeaning r)
 unfolding holidayMeaning

@@ -19,13 +19,13 @@ use Rattle.records.specs.declared.Day.{Day}
 use Rattle.records.specs.declared.Day.the-variants.{Fixed, Weekday, Easter}
 use Rattle.records.specs.declared.Date.{Date}
 use Rattle.records.specs.declared.DateOffset.{DateOffset}
-use Rattle.dates.specs.Dates.{optionalYear, backNth, frontNth, nth, weekdayOf, dayOf, dayBehind, rawDate, date}
-use Rattle.dates.specs.Ends.{untilDate, bareDay, until, endShape, datesBehind}
+use Rattle.dates.specs.Dates.{optionalYear, backNth, frontNth, nth, weekdayOf, dayOf, dayAfter, rawDate, date}
+use Rattle.dates.specs.Ends.{untilDate, bareDay, until, endShape, datesAfter}
 use Rattle.dates.specs.Meanings.{goodYears, goodDates, dated, offsetOf, bare, ended, dateMeaning, monthMeaning}
-use Rattle.dates.specs.MonthDays.{lastMonth, monthBehind, monthItemBehind, dateItemBehind, monthDayBehind, monthDayItem}
+use Rattle.dates.specs.MonthDays.{lastMonth, monthAfter, monthItemAfter, dateItemAfter, monthDayAfter, monthDayItem}
 use Rattle.dates.specs.Ranges.{stepped, untilLast, goodRange}
 use Rattle.dates.specs.Weeks.{weekShape, weekMeaning, weekItem}
-use Rattle.dates.specs.Years.{yearBehind, yearShape, yearMeaning, yearItem}
+use Rattle.dates.specs.Years.{yearAfter, yearShape, yearMeaning, yearItem}
 use Rattle.dates.specs.declared.Year.{Year}
 use Rattle.dates.specs.declared.RawDate.{RawDate}
 use Rattle.dates.specs.declared.RawMonths.{RawMonths}
@@ -34,7 +34,7 @@ use Rattle.dates.specs.declared.RawEnd.the-variants.{Nothing, Plus, Until, Bare
 use Rattle.dates.specs.declared.RawDates.{RawDates}
 use Rattle.dates.specs.declared.RawRange.{RawRange}
 use Rattle.items.specs.Musts.{atBrokenQuote, missingAt, missing, must}
-use Rattle.items.specs.Kinds.{apart, at, weeks, itemOf, itemIn}
+use Rattle.items.specs.Kinds.{afterBlank, at, weeks, itemOf, itemIn}
 use Rattle.items.specs.declared.Kind.{Kind}
 use Rattle.items.specs.declared.Kind.the-variants.{Years, MonthDays, Weeks, WeekNumbers, Weekdays, LastWeekdays, Holidays, LastHolidays, Times}
 use Rattle.utf8.specs.Utf8.{octet, utf8-tail, utf8-2, utf8-3, utf8-4, longer}
@@ -43,7 +43,7 @@ use Rattle.rules.specs.Comments.{noComment, closed, illFormed, comment, comment
 use Rattle.rules.specs.Modifiers.{withComment, modifier}
 use Rattle.rules.specs.Rows.{small, first, listed, following, isWide}
 use Rattle.rules.specs.Pieces.{empty, itemFrom, goesOn, afterColon, colonSign, colon, more, plainEnd, end}
-use Rattle.rules.specs.Rules.{always, wideComment, opening, ruleOf, behind, rule}
+use Rattle.rules.specs.Rules.{always, wideComment, opening, ruleOf, afterOpening, rule}
 use Rattle.rules.specs.Rules as rule-specs
 use Rattle.rules.specs.Separators.{commaBlank, bars, separator, next, stop, ruleEnd}
 use Rattle.rules.specs.declared.Next.{Next}
@@ -59,7 +59,10 @@ use Rattle.sheet.specs.declared.PartAnswer.{PartAnswer}
 use Rattle.demands.specs.Editions.{SheetNever8, PartNever8}
 use Rattle.demands.proofs.Judged.{second-rules}
 use Rattle.demands.proofs.Numbers.{either, next-same}
-use Rattle.demands.proofs.Points.{Other, Tells, nothing-tells, pure-tells, here-tells, refuse-tells, branch-tells, then-tells, or-tells, map-tells, if-tells, chain-tells, many-tells, only-tells, one-tells, ahead-tells, atEnd-tells, skip-tells, byte-tells, allOf-tells, blanks-tells, blank-tells, comma-tells, number-tells, word-tells, name-tells, OtherMeant, other-if, meant-tells, item-tells, timeItem-tells, offset-tells, weekdayItem-tells, holidayItem-tells}
+use Rattle.demands.proofs.Points.{Other, Tells, nothing-tells, pure-tells, here-tells, refuse-tells, branch-tells, then-tells, or-tells, map-tells, if-tells, chain-tells}
+use Rattle.demands.proofs.Points.{many-tells, only-tells, one-tells, ahead-tells, atEnd-tells, skip-tells, byte-tells, allOf-tells, blanks-tells, blank-tells, comma-tells}
+use Rattle.demands.proofs.Points.{number-tells, word-tells, name-tells, OtherMeant, other-if, meant-tells, item-tells, timeItem-tells, offset-tells, weekdayItem-tells}
+use Rattle.demands.proofs.Points.{holidayItem-tells}
 
 -- ---- dates
 
@@ -71,13 +74,13 @@ untilLast-tells : {m : Reader ℕ} → Tells m → (first : ℕ) → Tells (unti
 unfolding untilLast
 untilLast-tells M first = then-tells (byte-tells 45) (λ _. then-tells M (λ last. then-tells stepped-tells (λ step. pure-tells _)))
 
-yearBehind-tells : (first : ℕ) → Tells (yearBehind first)
-unfolding yearBehind
-yearBehind-tells first = or-tells (then-tells (byte-tells 43) (λ _. pure-tells _)) (or-tells (untilLast-tells (number-tells 4 4) first) (pure-tells _))
+yearAfter-tells : (first : ℕ) → Tells (yearAfter first)
+unfolding yearAfter
+yearAfter-tells first = or-tells (then-tells (byte-tells 43) (λ _. pure-tells _)) (or-tells (untilLast-tells (number-tells 4 4) first) (pure-tells _))
 
 yearShape-tells : Tells yearShape
 unfolding yearShape
-yearShape-tells = then-tells (number-tells 4 4) yearBehind-tells
+yearShape-tells = then-tells (number-tells 4 4) yearAfter-tells
 
 weekShape-tells : Tells weekShape
 unfolding weekShape
@@ -99,13 +102,13 @@ dayOf-tells : (m : ℕ) → Tells (dayOf m)
 unfolding dayOf
 dayOf-tells m = then-tells blank-tells (λ _. or-tells (then-tells (number-tells 1 2) (λ d. pure-tells _)) (weekdayOf-tells m))
 
-dayBehind-tells : (w : Word) → Tells (dayBehind w)
-unfolding dayBehind
-dayBehind-tells w = if-tells (eqb (w .0) easter) (pure-tells Easter) (if-tells (eqb (w .0) month) (dayOf-tells (w .1)) nothing-tells)
+dayAfter-tells : (w : Word) → Tells (dayAfter w)
+unfolding dayAfter
+dayAfter-tells w = if-tells (eqb (w .0) easter) (pure-tells Easter) (if-tells (eqb (w .0) month) (dayOf-tells (w .1)) nothing-tells)
 
 date-tells : Tells date
 unfolding date
-date-tells = then-tells optionalYear-tells (λ y. then-tells word-tells (λ w. then-tells (dayBehind-tells w) (λ d. pure-tells _)))
+date-tells = then-tells optionalYear-tells (λ y. then-tells word-tells (λ w. then-tells (dayAfter-tells w) (λ d. pure-tells _)))
 
 until-tells : Tells until
 unfolding until untilDate bareDay
@@ -115,13 +118,13 @@ endShape-tells : Tells endShape
 unfolding endShape
 endShape-tells = or-tells (then-tells (byte-tells 43) (λ _. pure-tells _)) (or-tells (then-tells (byte-tells 45) (λ _. until-tells)) (pure-tells _))
 
-datesBehind-tells : (d : RawDate) → Tells (datesBehind d)
-unfolding datesBehind
-datesBehind-tells d = then-tells offset-tells (λ o. then-tells endShape-tells (λ e. pure-tells _))
+datesAfter-tells : (d : RawDate) → Tells (datesAfter d)
+unfolding datesAfter
+datesAfter-tells d = then-tells offset-tells (λ o. then-tells endShape-tells (λ e. pure-tells _))
 
-monthBehind-tells : (y : Year) (first : ℕ) → Tells (monthBehind y first)
-unfolding monthBehind lastMonth
-monthBehind-tells y first = then-tells (or-tells (then-tells (byte-tells 45) (λ _. name-tells month)) (pure-tells first)) (λ last. pure-tells _)
+monthAfter-tells : (y : Year) (first : ℕ) → Tells (monthAfter y first)
+unfolding monthAfter lastMonth
+monthAfter-tells y first = then-tells (or-tells (then-tells (byte-tells 45) (λ _. name-tells month)) (pure-tells first)) (λ last. pure-tells _)
 
 year-other : (r : RawRange) → OtherMeant (yearMeaning r)
 unfolding yearMeaning
@@ -159,11 +162,11 @@ unfolding weekItem
 weekItem-tells = item-tells weekShape-tells weekMeaning week-other
 
 monthDayItem-tells : Tells monthDayItem
-unfolding monthDayItem monthDayBehind dateItemBehind monthItemBehind
+unfolding monthDayItem monthDayAfter dateItemAfter monthItemAfter
 monthDayItem-tells =
     then-tells here-tells (λ p. then-tells optionalYear-tells (λ y. then-tells word-tells (λ w.
-    branch-tells (dayBehind-tells w) (λ d. meant-tells (datesBehind-tells (rawDate y d)) dateMeaning date-other p)
-    (then-tells (only-tells (eqb (w .0) month)) (λ _. meant-tells (monthBehind-tells y (w .1)) monthMeaning month-other p)))))
+    branch-tells (dayAfter-tells w) (λ d. meant-tells (datesAfter-tells (rawDate y d)) dateMeaning date-other p)
+    (then-tells (only-tells (eqb (w .0) month)) (λ _. meant-tells (monthAfter-tells y (w .1)) monthMeaning month-other p)))))
 
 -- ---- items
 
@@ -182,8 +185,8 @@ missing-tells = then-tells blanks-tells (λ _. record { tells = λ s p. lack s p
 must-tells : {A : Type 0} {m : Reader A} → Tells m → Tells (must m)
 must-tells M = or-tells M missing-tells
 
-apart-tells : {A : Type 0} {m : Reader A} → Tells m → Tells (apart m)
-apart-tells M = then-tells blank-tells (λ _. M)
+afterBlank-tells : {A : Type 0} {m : Reader A} → Tells m → Tells (afterBlank m)
+afterBlank-tells M = then-tells blank-tells (λ _. M)
 
 at-tells : {m : Reader Item} → Tells m → Tells (at m)
 at-tells M = then-tells here-tells (λ p. then-tells M (λ a. pure-tells (a, p)))
@@ -192,7 +195,7 @@ itemOf-tells : (k : Kind) → Tells (itemOf Second k)
 unfolding itemOf weeks
 itemOf-tells Years = at-tells yearItem-tells
 itemOf-tells MonthDays = at-tells monthDayItem-tells
-itemOf-tells Weeks = then-tells (name-tells week) (λ _. must-tells (apart-tells (at-tells weekItem-tells)))
+itemOf-tells Weeks = then-tells (name-tells week) (λ _. must-tells (afterBlank-tells (at-tells weekItem-tells)))
 itemOf-tells WeekNumbers = at-tells weekItem-tells
 itemOf-tells Weekdays = at-tells weekdayItem-tells
 itemOf-tells LastWeekdays = at-tells weekdayItem-tells
@@ -224,7 +227,8 @@ longer-tells =
     (or-tells (then-tells (octet-tells _ _) (λ _. then-tells tail-tells (λ _. tail-tells)))
     (or-tells (then-tells (octet-tells _ _) (λ _. then-tells (octet-tells _ _) (λ _. tail-tells))) (then-tells (octet-tells _ _) (λ _. then-tells tail-tells (λ _. tail-tells))))))
     (or-tells (then-tells (octet-tells _ _) (λ _. then-tells (octet-tells _ _) (λ _. then-tells tail-tells (λ _. tail-tells))))
-    (or-tells (then-tells (octet-tells _ _) (λ _. then-tells tail-tells (λ _. then-tells tail-tells (λ _. tail-tells)))) (then-tells (octet-tells _ _) (λ _. then-tells (octet-tells _ _) (λ _. then-tells tail-tells (λ _. tail-tells)))))))
+    (or-tells (then-tells (octet-tells _ _) (λ _. then-tells tail-tells (λ _. then-tells tail-tells (λ _. tail-tells)))) (then-tells (octet-tells _ _) (λ _. then-tells
+    (octet-tells _ _) (λ _. then-tells tail-tells (λ _. tail-tells)))))))
 
 letters-tells : Tells letters
 unfolding letters letter plain
@@ -239,7 +243,9 @@ comment-tells =
 
 modifier-tells : Tells modifier
 unfolding modifier withComment commentApart
-modifier-tells = or-tells (then-tells (name-tells names.modifier) (λ state. then-tells (or-tells (then-tells blank-tells (λ _. comment-tells)) (pure-tells noComment)) (λ c. pure-tells _))) (then-tells comment-tells (λ c. pure-tells _))
+modifier-tells =
+    or-tells (then-tells (name-tells names.modifier) (λ state. then-tells (or-tells (then-tells blank-tells (λ _. comment-tells)) (pure-tells noComment))
+    (λ c. pure-tells _))) (then-tells comment-tells (λ c. pure-tells _))
 
 -- ---- rules
 
@@ -265,7 +271,7 @@ itemFrom-tells : (ks : List Kind) → Tells (itemFrom Second ks)
 itemFrom-tells ks = map-tells (λ a. (a .0, After (a .1))) (itemIn-tells ks)
 
 afterColon-tells : Tells (afterColon Second)
-afterColon-tells = must-tells (apart-tells (itemFrom-tells small))
+afterColon-tells = must-tells (afterBlank-tells (itemFrom-tells small))
 
 more-tells : (x : Stage) → Tells (more Second x)
 unfolding more goesOn colon colonSign
@@ -274,7 +280,7 @@ more-tells Always = nothing-tells
 more-tells Colon = afterColon-tells
 more-tells (After k) =
     or-tells (then-tells comma-tells (λ _. must-tells (itemFrom-tells (listed k))))
-    (or-tells (then-tells (then-tells (only-tells (isWide k)) (λ _. byte-tells 58)) (λ _. afterColon-tells)) (apart-tells (itemFrom-tells (following k))))
+    (or-tells (then-tells (then-tells (only-tells (isWide k)) (λ _. byte-tells 58)) (λ _. afterColon-tells)) (afterBlank-tells (itemFrom-tells (following k))))
 
 empty-tells : Tells empty
 unfolding empty ruleEnd
@@ -283,16 +289,18 @@ empty-tells = then-tells here-tells (λ p. then-tells (or-tells stop-tells (or-t
 end-tells : (x : Stage) → Tells (end x)
 unfolding end plainEnd
 end-tells Beginning = or-tells modifier-tells (or-tells empty-tells missing-tells)
-end-tells Always = or-tells (apart-tells modifier-tells) (pure-tells _)
-end-tells Colon = or-tells (apart-tells modifier-tells) (pure-tells _)
-end-tells (After k) = or-tells (apart-tells modifier-tells) (pure-tells _)
+end-tells Always = or-tells (afterBlank-tells modifier-tells) (pure-tells _)
+end-tells Colon = or-tells (afterBlank-tells modifier-tells) (pure-tells _)
+end-tells (After k) = or-tells (afterBlank-tells modifier-tells) (pure-tells _)
 
 opening-tells : Tells opening
 unfolding opening always wideComment
-opening-tells = or-tells (then-tells (allOf-tells (λ b. b) (bytes "24/7")) (λ _. pure-tells _)) (or-tells (then-tells comment-tells (λ c. then-tells (byte-tells 58) (λ _. pure-tells _))) (pure-tells _))
+opening-tells =
+    or-tells (then-tells (allOf-tells (λ b. b) (bytes "24/7")) (λ _. pure-tells _)) (or-tells (then-tells comment-tells (λ c. then-tells (byte-tells 58)
+    (λ _. pure-tells _))) (pure-tells _))
 
 rule-tells : (separator : ℕ) → Tells (rule Second separator)
-unfolding rule behind
+unfolding rule afterOpening
 rule-tells separator = then-tells here-tells (λ p. then-tells opening-tells (λ o. map-tells (ruleOf p separator (o .comment)) (chain-tells more-tells end-tells (o .stage))))
 
 -- ---- sheets

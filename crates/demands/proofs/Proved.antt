@@ -49,26 +49,115 @@ said r = (r .number ∷ r .place ∷ length (r .records) ∷ r .warnings ∷ mor
 -- the table
 unfoldable pub rows : List Row
 rows =
-    record { sheet = bytes "2020 Dec 25-05"; asked = whole; number = 0; place = 0; warnings = 0; records = (0, pos 1 ∷ pos 0 ∷ pos 0 ∷ pos 0 ∷ pos 0 ∷ pos 1 ∷ []) ∷ (0, pos 4 ∷ pos 1 ∷ pos 2020 ∷ pos 12 ∷ pos 25 ∷ pos 0 ∷ pos 0 ∷ pos 0 ∷ pos 1 ∷ pos 2021 ∷ pos 1 ∷ pos 5 ∷ []) ∷ [] }
-    ∷ record { sheet = bytes "Dec 25-25"; asked = whole; number = 0; place = 0; warnings = 0; records = (0, pos 1 ∷ pos 0 ∷ pos 0 ∷ pos 0 ∷ pos 0 ∷ pos 1 ∷ []) ∷ (0, pos 4 ∷ pos 1 ∷ pos 0 ∷ pos 12 ∷ pos 25 ∷ pos 0 ∷ pos 0 ∷ pos 0 ∷ pos 1 ∷ pos 0 ∷ pos 12 ∷ pos 25 ∷ []) ∷ [] }
-    ∷ record { sheet = bytes "9999 Dec 31-01"; asked = whole; number = 0; place = 0; warnings = 0; records = (0, pos 1 ∷ pos 0 ∷ pos 0 ∷ pos 0 ∷ pos 0 ∷ pos 1 ∷ []) ∷ (0, pos 4 ∷ pos 1 ∷ pos 9999 ∷ pos 12 ∷ pos 31 ∷ pos 0 ∷ pos 0 ∷ pos 0 ∷ pos 1 ∷ pos 10000 ∷ pos 1 ∷ pos 1 ∷ []) ∷ [] }
+    record {
+      sheet = bytes "2020 Dec 25-05";
+      asked = whole;
+      number = 0;
+      place = 0;
+      warnings = 0;
+      records = (0, pos 1 ∷ pos 0 ∷ pos 0 ∷ pos 0 ∷ pos 0 ∷ pos 1 ∷ []) ∷
+          (0, pos 4 ∷ pos 1 ∷ pos 2020 ∷ pos 12 ∷ pos 25 ∷ pos 0 ∷ pos 0 ∷ pos 0 ∷ pos 1 ∷ pos 2021 ∷ pos 1 ∷ pos 5 ∷ []) ∷ [];
+    }
+    ∷ record {
+      sheet = bytes "Dec 25-25";
+      asked = whole;
+      number = 0;
+      place = 0;
+      warnings = 0;
+      records = (0, pos 1 ∷ pos 0 ∷ pos 0 ∷ pos 0 ∷ pos 0 ∷ pos 1 ∷ []) ∷
+          (0, pos 4 ∷ pos 1 ∷ pos 0 ∷ pos 12 ∷ pos 25 ∷ pos 0 ∷ pos 0 ∷ pos 0 ∷ pos 1 ∷ pos 0 ∷ pos 12 ∷ pos 25 ∷ []) ∷ [];
+    }
+    ∷ record {
+      sheet = bytes "9999 Dec 31-01";
+      asked = whole;
+      number = 0;
+      place = 0;
+      warnings = 0;
+      records = (0, pos 1 ∷ pos 0 ∷ pos 0 ∷ pos 0 ∷ pos 0 ∷ pos 1 ∷ []) ∷
+          (0, pos 4 ∷ pos 1 ∷ pos 9999 ∷ pos 12 ∷ pos 31 ∷ pos 0 ∷ pos 0 ∷ pos 0 ∷ pos 1 ∷ pos 10000 ∷ pos 1 ∷ pos 1 ∷ []) ∷ [];
+    }
     ∷ record { sheet = bytes "easter-05"; asked = whole; number = 9; place = 0; warnings = 0; records = [] }
     ∷ record { sheet = bytes "10:00"; asked = whole; number = 8; place = 0; warnings = 0; records = [] }
     ∷ record { sheet = bytes "10:00-12:00/24:00"; asked = whole; number = 4; place = 0; warnings = 0; records = [] }
-    ∷ record { sheet = bytes "Fr[3-1]"; asked = whole; number = 0; place = 0; warnings = 0; records = (0, pos 1 ∷ pos 0 ∷ pos 0 ∷ pos 0 ∷ pos 0 ∷ pos 1 ∷ []) ∷ (0, pos 6 ∷ pos 5 ∷ pos 5 ∷ pos 0 ∷ pos 31 ∷ pos 31 ∷ []) ∷ [] }
-    ∷ record { sheet = bytes "Fr[3-1,2]"; asked = whole; number = 0; place = 0; warnings = 0; records = (0, pos 1 ∷ pos 0 ∷ pos 0 ∷ pos 0 ∷ pos 0 ∷ pos 1 ∷ []) ∷ (0, pos 6 ∷ pos 5 ∷ pos 5 ∷ pos 0 ∷ pos 2 ∷ []) ∷ [] }
+    ∷ record {
+      sheet = bytes "Fr[3-1]";
+      asked = whole;
+      number = 0;
+      place = 0;
+      warnings = 0;
+      records = (0, pos 1 ∷ pos 0 ∷ pos 0 ∷ pos 0 ∷ pos 0 ∷ pos 1 ∷ []) ∷
+          (0, pos 6 ∷ pos 5 ∷ pos 5 ∷ pos 0 ∷ pos 31 ∷ pos 31 ∷ []) ∷ [];
+    }
+    ∷ record {
+      sheet = bytes "Fr[3-1,2]";
+      asked = whole;
+      number = 0;
+      place = 0;
+      warnings = 0;
+      records = (0, pos 1 ∷ pos 0 ∷ pos 0 ∷ pos 0 ∷ pos 0 ∷ pos 1 ∷ []) ∷
+          (0, pos 6 ∷ pos 5 ∷ pos 5 ∷ pos 0 ∷ pos 2 ∷ []) ∷ [];
+    }
     ∷ record { sheet = bytes "week 5-1/256"; asked = whole; number = 5; place = 5; warnings = 0; records = [] }
     ∷ record { sheet = bytes "week 5-1/255"; asked = whole; number = 7; place = 5; warnings = 0; records = [] }
     ∷ record { sheet = bytes "2021-2020"; asked = whole; number = 6; place = 0; warnings = 0; records = [] }
-    ∷ record { sheet = bytes "2020-2022/2"; asked = whole; number = 0; place = 0; warnings = 0; records = (0, pos 1 ∷ pos 0 ∷ pos 0 ∷ pos 0 ∷ pos 0 ∷ pos 1 ∷ []) ∷ (0, pos 2 ∷ pos 2020 ∷ pos 2022 ∷ pos 2 ∷ []) ∷ [] }
-    ∷ record { sheet = bytes "2020-2022/3"; asked = whole; number = 0; place = 0; warnings = 0; records = (0, pos 1 ∷ pos 0 ∷ pos 0 ∷ pos 0 ∷ pos 0 ∷ pos 1 ∷ []) ∷ (0, pos 2 ∷ pos 2020 ∷ pos 2022 ∷ pos 1 ∷ []) ∷ [] }
+    ∷ record {
+      sheet = bytes "2020-2022/2";
+      asked = whole;
+      number = 0;
+      place = 0;
+      warnings = 0;
+      records = (0, pos 1 ∷ pos 0 ∷ pos 0 ∷ pos 0 ∷ pos 0 ∷ pos 1 ∷ []) ∷
+          (0, pos 2 ∷ pos 2020 ∷ pos 2022 ∷ pos 2 ∷ []) ∷ [];
+    }
+    ∷ record {
+      sheet = bytes "2020-2022/3";
+      asked = whole;
+      number = 0;
+      place = 0;
+      warnings = 0;
+      records = (0, pos 1 ∷ pos 0 ∷ pos 0 ∷ pos 0 ∷ pos 0 ∷ pos 1 ∷ []) ∷
+          (0, pos 2 ∷ pos 2020 ∷ pos 2022 ∷ pos 1 ∷ []) ∷ [];
+    }
     ∷ record { sheet = bytes ""; asked = whole; number = 11; place = 0; warnings = 0; records = [] }
     ∷ record { sheet = bytes "Mo;; Tu"; asked = whole; number = 11; place = 3; warnings = 0; records = [] }
-    ∷ record { sheet = bytes "Mo,Tu"; asked = whole; number = 0; place = 0; warnings = 0; records = (0, pos 1 ∷ pos 0 ∷ pos 0 ∷ pos 0 ∷ pos 0 ∷ pos 2 ∷ []) ∷ (0, pos 6 ∷ pos 1 ∷ pos 1 ∷ pos 0 ∷ pos 31 ∷ pos 31 ∷ []) ∷ (3, pos 6 ∷ pos 2 ∷ pos 2 ∷ pos 0 ∷ pos 31 ∷ pos 31 ∷ []) ∷ [] }
-    ∷ record { sheet = bytes "Mo, Tu"; asked = whole; number = 0; place = 0; warnings = 0; records = (0, pos 1 ∷ pos 0 ∷ pos 0 ∷ pos 0 ∷ pos 0 ∷ pos 1 ∷ []) ∷ (0, pos 6 ∷ pos 1 ∷ pos 1 ∷ pos 0 ∷ pos 31 ∷ pos 31 ∷ []) ∷ (4, pos 1 ∷ pos 1 ∷ pos 0 ∷ pos 0 ∷ pos 0 ∷ pos 1 ∷ []) ∷ (4, pos 6 ∷ pos 2 ∷ pos 2 ∷ pos 0 ∷ pos 31 ∷ pos 31 ∷ []) ∷ [] }
-    ∷ record { sheet = bytes "Mo;; Tu"; asked = part 0 3 false; number = 0; place = 0; warnings = 0; records = (0, pos 1 ∷ pos 0 ∷ pos 0 ∷ pos 0 ∷ pos 0 ∷ pos 1 ∷ []) ∷ (0, pos 6 ∷ pos 1 ∷ pos 1 ∷ pos 0 ∷ pos 31 ∷ pos 31 ∷ []) ∷ [] }
+    ∷ record {
+      sheet = bytes "Mo,Tu";
+      asked = whole;
+      number = 0;
+      place = 0;
+      warnings = 0;
+      records = (0, pos 1 ∷ pos 0 ∷ pos 0 ∷ pos 0 ∷ pos 0 ∷ pos 2 ∷ []) ∷
+          (0, pos 6 ∷ pos 1 ∷ pos 1 ∷ pos 0 ∷ pos 31 ∷ pos 31 ∷ []) ∷ (3, pos 6 ∷ pos 2 ∷ pos 2 ∷ pos 0 ∷ pos 31 ∷ pos 31 ∷ []) ∷ [];
+    }
+    ∷ record {
+      sheet = bytes "Mo, Tu";
+      asked = whole;
+      number = 0;
+      place = 0;
+      warnings = 0;
+      records = (0, pos 1 ∷ pos 0 ∷ pos 0 ∷ pos 0 ∷ pos 0 ∷ pos 1 ∷ []) ∷
+          (0, pos 6 ∷ pos 1 ∷ pos 1 ∷ pos 0 ∷ pos 31 ∷ pos 31 ∷ []) ∷ (4, pos 1 ∷ pos 1 ∷ pos 0 ∷ pos 0 ∷ pos 0 ∷ pos 1 ∷ []) ∷
+          (4, pos 6 ∷ pos 2 ∷ pos 2 ∷ pos 0 ∷ pos 31 ∷ pos 31 ∷ []) ∷ [];
+    }
+    ∷ record {
+      sheet = bytes "Mo;; Tu";
+      asked = part 0 3 false;
+      number = 0;
+      place = 0;
+      warnings = 0;
+      records = (0, pos 1 ∷ pos 0 ∷ pos 0 ∷ pos 0 ∷ pos 0 ∷ pos 1 ∷ []) ∷
+          (0, pos 6 ∷ pos 1 ∷ pos 1 ∷ pos 0 ∷ pos 31 ∷ pos 31 ∷ []) ∷ [];
+    }
     ∷ record { sheet = bytes "Mo;; Tu"; asked = part 3 4 false; number = 11; place = 3; warnings = 0; records = [] }
-    ∷ record { sheet = bytes "Mo;; Tu"; asked = part 4 0 true; number = 0; place = 0; warnings = 0; records = (5, pos 1 ∷ pos 0 ∷ pos 0 ∷ pos 0 ∷ pos 0 ∷ pos 1 ∷ []) ∷ (5, pos 6 ∷ pos 2 ∷ pos 2 ∷ pos 0 ∷ pos 31 ∷ pos 31 ∷ []) ∷ [] }
+    ∷ record {
+      sheet = bytes "Mo;; Tu";
+      asked = part 4 0 true;
+      number = 0;
+      place = 0;
+      warnings = 0;
+      records = (5, pos 1 ∷ pos 0 ∷ pos 0 ∷ pos 0 ∷ pos 0 ∷ pos 1 ∷ []) ∷
+          (5, pos 6 ∷ pos 2 ∷ pos 2 ∷ pos 0 ∷ pos 31 ∷ pos 31 ∷ []) ∷ [];
+    }
     ∷ []
 
 -- every row is right

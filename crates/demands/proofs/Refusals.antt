@@ -119,7 +119,8 @@ sheet-leaves : {A : Type 0} (t : List A) (read : Manner → Answer × List A) �
 sheet-leaves t read h (Known m) = h m
 sheet-leaves t read h Unknown = λ x. (refl, refl, refl)
 
-part-leaves : {A : Type 0} (t : List A) (read : Manner → PartAnswer × List A) → ((m : Manner) → LeavesPart t (read m)) → (e : Edition) → LeavesPart t (inEdition e read (partRefusal unknownEdition .0, t))
+part-leaves : {A : Type 0} (t : List A) (read : Manner → PartAnswer × List A) → ((m : Manner) → LeavesPart t (read m)) → (e : Edition) →
+    LeavesPart t (inEdition e read (partRefusal unknownEdition .0, t))
 part-leaves t read h (Known m) = h m
 part-leaves t read h Unknown = λ x. (refl, refl, refl)
 

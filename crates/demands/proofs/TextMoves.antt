@@ -1,4 +1,4 @@
--- The answer and the records of a text that stands behind u are its own, with their places moved.
+-- The answer and the records of a text that stands after u are its own, with their places moved.
 use Prim.Native.Nat.{ℕ, zero, suc, _+_, _/_}
 use mathlib.Core.List.{List, [], _∷_, _++_, map, map-append}
 use mathlib.Core.Bool.{Bool, true, false}

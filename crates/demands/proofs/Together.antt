@@ -124,7 +124,7 @@ module _ (m : Manner) (u s : List ℕ) (p q n : ℕ) (w : warningsOf (drop p s) 
   two-judged none y f g = two-refused n (refusal 3 p) (judgedText s q n (judged m y)) (refusal 3 p) (λ a b c. omega arith) (omega arith)
   two-judged (refused k o) y f g = two-refused n (refusal k o) (judgedText s q n (judged m y)) (refusal k o) (λ a b c. omega (arith, number-positive m f)) (number-positive m f)
 
--- the text from a part's beginning on: that part, and the text behind the `;` that ends it
+-- the text from a part's beginning on: that part, and the text after the `;` that ends it
 two-texts : (m : Manner) (s : List ℕ) (p n : ℕ) → partEnd s p < length s → Two n (textOf m (take (partEnd s p) s) p n) (textOf m s (suc (partEnd s p)) n) (textOf m s p n)
 unfolding textOf
 two-texts m s p n h =
@@ -210,7 +210,8 @@ unfolding partBy
 part-is m s p n h b = rw (le-ltb 4096 (length s) h, b)
 
 -- where it is not the last
-pub part-more : (m : Manner) (s : List ℕ) (p n : ℕ) → length s ≤ 4096 → begins s p ≡ true → partEnd s p < length s → partBy m s p n ≡ parting (textOf m (take (partEnd s p) s) p n) (suc (partEnd s p)) false
+pub part-more : (m : Manner) (s : List ℕ) (p n : ℕ) → length s ≤ 4096 → begins s p ≡ true → partEnd s p < length s →
+    partBy m s p n ≡ parting (textOf m (take (partEnd s p) s) p n) (suc (partEnd s p)) false
 unfolding withNext
 part-more m s p n h b l = part-is m s p n h b ∙ rw (lt-ltb (partEnd s p) (length s) l)
 
@@ -224,7 +225,8 @@ together-from : (m : Manner) (k : ℕ) (s : List ℕ) (p n : ℕ) → length s �
 together-from m zero s p n h b l = absurd (omega (arith, begins-fits s p b))
 together-from m (suc k) s p n h b l = rw (places-next s p b) (go (decLt (partEnd s p) (length s)) (together-from m k s (suc (partEnd s p)) n h))
   where
-    go : Dec (partEnd s p < length s) → (begins s (suc (partEnd s p)) ≡ true → length s < suc (partEnd s p) + k → Together n (textOf m s (suc (partEnd s p)) n) (λ q. partBy m s q n) (placesFrom s (suc (partEnd s p)))) →
+    go : Dec (partEnd s p < length s) → (begins s (suc (partEnd s p)) ≡ true → length s < suc (partEnd s p) + k →
+        Together n (textOf m s (suc (partEnd s p)) n) (λ q. partBy m s q n) (placesFrom s (suc (partEnd s p)))) →
         Together n (textOf m s p n) (λ q. partBy m s q n) (p ∷ placesFrom s (suc (partEnd s p)))
     go (yes e) ih = together-more (λ q. partBy m s q n) p (part-more m s p n h b e) (two-texts m s p n e) (ih (begins-next s p b e) (omega (arith, part-begin s p)))
     go (no e) ih = rw (places-none s (suc (partEnd s p)) (omega arith)) (together-one (λ q. partBy m s q n) p (part-last m s p n h b (omega arith)) (text-fits m s p n))
@@ -249,5 +251,6 @@ module _ (m : Manner) (s : List ℕ) (n : ℕ) (h : length s ≤ 4096) where
   together-records = together m s n h .made
 
   -- and their counts added
-  pub together-counts : sheetBy m s n .0 .number ≡ 0 → (sheetBy m s n .0 .records ≡ total (λ p. partBy m s p n .0 .records) (places s)) × (sheetBy m s n .0 .warnings ≡ total (λ p. partBy m s p n .0 .warnings) (places s))
+  pub together-counts : sheetBy m s n .0 .number ≡ 0 →
+      (sheetBy m s n .0 .records ≡ total (λ p. partBy m s p n .0 .records) (places s)) × (sheetBy m s n .0 .warnings ≡ total (λ p. partBy m s p n .0 .warnings) (places s))
   together-counts e = (together m s n h .counted e, together m s n h .warned e)

@@ -1,4 +1,4 @@
--- Reading into a table of bytes is reading into a table of words: the same numbers, the bytes of its words, and every byte behind them unchanged.
+-- Reading into a table of bytes is reading into a table of words: the same numbers, the bytes of its words, and every byte after them unchanged.
 use Prim.Native.Nat.{ℕ, zero, suc, _+_, _*_, _≤_, _<_}
 use mathlib.Core.List.{List, [], _∷_, _++_}
 use mathlib.Core.Path.{_≡_, refl, sym, ap, _∙_}
@@ -50,7 +50,8 @@ module _ (rest : List ℕ) where
       ∙ record-bytes r (set w i z) (suc i) (rw length-set (omega arith))
 
   -- and those of many, of c words each, that have room
-  pub laid-bytes : (c : ℕ) (rs : List (List ℤ)) (w : List ℤ) (k : ℕ) → Each c rs → (k + length rs) * c ≤ length w → laid (inBytes c) (recordBytes w ++ rest) k rs ≡ recordBytes (laid (inWords c) w k rs) ++ rest
+  pub laid-bytes : (c : ℕ) (rs : List (List ℤ)) (w : List ℤ) (k : ℕ) → Each c rs → (k + length rs) * c ≤ length w →
+      laid (inBytes c) (recordBytes w ++ rest) k rs ≡ recordBytes (laid (inWords c) w k rs) ++ rest
   unfolding laid
   laid-bytes c [] w k h l = refl
   laid-bytes c (r ∷ rs) w k h l =
@@ -65,13 +66,13 @@ pub each-sixteen : (rs : List (List ℤ)) → Sixteen rs → Each 16 rs
 each-sixteen [] h = tt
 each-sixteen (r ∷ rs) h = (h .0, each-sixteen rs (h .1))
 
--- a table of bytes that are the bytes of a table of k records, and fewer than a record's behind them
+-- a table of bytes that are the bytes of a table of k records, and fewer than a record's after them
 module _ (w : List ℤ) (rest : List ℕ) (k : ℕ) (e : length w ≡ k * 16) (h : length rest < 64) where
   -- has the same room
   room : wordsIn (length (recordBytes w ++ rest)) ≡ length w
   room = rw (length-append, length-bytes w) (omega arith)
 
-  -- after a sheet is read: the same numbers, the bytes of the table of words afterwards, and the same bytes behind them
+  -- after a sheet is read: the same numbers, the bytes of the table of words afterwards, and the same bytes after them
   pub sheet-as-words : (m : Manner) (s : List ℕ) → sheetReadingBytesBy m s (recordBytes w ++ rest) ≡ (sheetReadingBy m s w .0, recordBytes (sheetReadingBy m s w .1) ++ rest)
   unfolding sheetReadingBytesBy sheetReadingBy
   sheet-as-words m s =

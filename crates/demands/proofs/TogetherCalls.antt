@@ -56,7 +56,8 @@ walk-from : (m : Manner) (k : ℕ) (s : List ℕ) (p n : ℕ) → length s ≤ 4
 walk-from m zero s p n h b l = absurd (omega (arith, begins-fits s p b))
 walk-from m (suc k) s p n h b l = rw (places-next s p b) (go (decLt (partEnd s p) (length s)) (walk-from m k s (suc (partEnd s p)) n h))
   where
-    go : Dec (partEnd s p < length s) → (begins s (suc (partEnd s p)) ≡ true → length s < suc (partEnd s p) + k → walk (λ q. partBy m s q n .0) k (suc (partEnd s p)) ≡ placesFrom s (suc (partEnd s p))) →
+    go : Dec (partEnd s p < length s) → (begins s (suc (partEnd s p)) ≡ true → length s < suc (partEnd s p) + k →
+        walk (λ q. partBy m s q n .0) k (suc (partEnd s p)) ≡ placesFrom s (suc (partEnd s p))) →
         walk (λ q. partBy m s q n .0) (suc k) p ≡ p ∷ placesFrom s (suc (partEnd s p))
     go (yes e) ih = rw (part-more m s p n h b e, ih (begins-next s p b e) (omega (arith, part-begin s p)))
     go (no e) ih = rw (part-last m s p n h b (omega arith), places-none s (suc (partEnd s p)) (omega arith))

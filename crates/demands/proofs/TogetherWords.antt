@@ -48,7 +48,13 @@ module _ (m : Manner) (s : List ℕ) (t : List ℤ) where
   all-words : (ps : List ℕ) → cellsOf asWords (inOrder (λ p. partBy m s p (length t) .1) ps) ≡ inOrder partWords ps
   unfolding partReadingBy
   all-words [] = refl
-  all-words (p ∷ ps) = rw (words-append (partBy m s p (length t) .1) (inOrder (λ q. partBy m s q (length t) .1) ps), all-words ps, held-words t (partBy m s p (length t) .1) (part-held m s p (length t)))
+  all-words (p ∷ ps) =
+      rw (
+        words-append (partBy m s p (length t) .1) (inOrder (λ q. partBy m s q (length t) .1) ps),
+        all-words ps,
+        held-words t (partBy m s p (length t) .1)
+            (part-held m s p (length t)),
+      )
 
   -- an accepted sheet leaves the words that its parts write, one part after another, and the rest of the table as it was
   pub calls-words : length s ≤ 4096 → sheetReadingBy m s t .0 .number ≡ 0 → sheetReadingBy m s t .1 ≡ inOrder partWords (places s) ++ drop (sheetReadingBy m s t .0 .records * 16) t

@@ -1,4 +1,4 @@
--- The warnings of a text with a `;` outside quotes are those before it and those behind it.
+-- The warnings of a text with a `;` outside quotes are those before it and those after it.
 use Prim.Native.Nat.{ℕ, _+_}
 use mathlib.Core.List.{List, [], _∷_, _++_}
 use mathlib.Core.Bool.{Bool, true, false, not, _&&_}
@@ -34,10 +34,10 @@ warned-cut true l s t b h = refl
 warned-cut false l s t b h = ap (λ (c : Bool). not l && isLetter b && c) (calls-cut s t h)
 
 -- a `;` calls for none
-warnings-behind : (l : Bool) (t : List ℕ) → warningsIn false l (59 ∷ t) ≡ 0 + warningsOf t
+warnings-after : (l : Bool) (t : List ℕ) → warningsIn false l (59 ∷ t) ≡ 0 + warningsOf t
 unfolding warningsIn isLetter within
-warnings-behind true t = refl
-warnings-behind false t = refl
+warnings-after true t = refl
+warnings-after false t = refl
 
 -- a turn, from its end
 unturned : (p i j : Bool) → turn p i ≡ j → i ≡ turn p j
@@ -48,9 +48,9 @@ unturned false i j e = e
 -- from either side
 warnings-cut : (i l : Bool) (x t : List ℕ) → insideOf x ≡ i → warningsIn i l (x ++ 59 ∷ t) ≡ warningsIn i l x + warningsOf t
 unfolding warningsIn insideOf
-warnings-cut i l [] t h = rw (← h) (warnings-behind l t)
+warnings-cut i l [] t h = rw (← h) (warnings-after l t)
 warnings-cut i l (b ∷ x) t h = rw (warned-cut i l (b ∷ x) t b h) (omega (arith, warnings-cut (flips b i) (isLetter b) x t (unturned (eqb b 34) (insideOf x) i h)))
 
--- those before the `;` and those behind it
+-- those before the `;` and those after it
 pub warnings-two : (x t : List ℕ) → insideOf x ≡ false → warningsOf (x ++ 59 ∷ t) ≡ warningsOf x + warningsOf t
 warnings-two x t h = warnings-cut false false x t h

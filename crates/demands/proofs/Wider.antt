@@ -25,7 +25,7 @@ use Rattle.times.specs.Spans.{spanShape, timeItem}
 use Rattle.times.specs.Shapes.{RawSpan, Alone, Open, Until}
 use Rattle.days.specs.Offsets.{plusOrMinus, dayOffset, noDays, anyDays}
 use Rattle.days.specs.Entries.{noMarks}
-use Rattle.days.specs.Weekdays.{rawWeekdays, plain, lastWeekday, bracketed, untilWeekday, withEntries, narrowBehind, wideBehind, weekdayBehind, weekdayShape, weekdayMeaning, weekdayItem}
+use Rattle.days.specs.Weekdays.{rawWeekdays, plain, lastWeekday, bracketed, untilWeekday, withEntries, narrowAfter, wideAfter, weekdayAfter, weekdayShape, weekdayMeaning, weekdayItem}
 use Rattle.days.specs.declared.RawDays.{RawDays}
 use Rattle.days.specs.declared.RawWeekdays.{RawWeekdays}
 use Rattle.days.specs.declared.Marks.{Marks}
@@ -70,7 +70,7 @@ wide-map P Q s i f w h = wide-branch P Q s i (λ a. pure (f a)) (λ a. pure (f a
 pub wide-or : {A : Type 0} (P : A → ℕ → Type 0) (s : List ℕ) (i : ℕ) (n o : Reader A) {x y : Read A} → Wide P x y → Wide P (n s i) (o s i) → Wide P (follow s i x pure n) (follow s i y pure o)
 wide-or P s i n o w v = wide-branch P P s i pure pure n o w (λ a j e. same) (λ a j e p. p) v
 
--- ---- places behind which the first edition reads nothing more
+-- ---- places after which the first edition reads nothing more
 
 -- a plus or a minus
 abbrev pub Sign : ℕ → Type 0
@@ -91,7 +91,7 @@ module _ (s : List ℕ) where
       go true e = let q : got tt (skip-sure (eqb 32) s (suc j) .0) ≡ refused n p = sym (skip-sure (eqb 32) s (suc j) .1) ∙ e in let z : _≡_ {A = ℕ} 0 1 = cc in omega arith
       go false e = let z : _≡_ {A = ℕ} 0 1 = cc in omega arith
 
-  -- entries stand behind a bracket
+  -- entries stand after a bracket
   entries-dead : (j : ℕ) → (bracketed s j ≡ none) ⊎ Dead s j
   unfolding bracketed byte
   entries-dead j = go (eqb 91 (getD s j 0)) refl
@@ -100,7 +100,7 @@ module _ (s : List ℕ) where
       go true e = inr (bracket (sym (eqb-true 91 (getD s j 0) e)))
       go false e = inl (rw (one-is (eqb 91) refl s j refl e))
 
-  -- an offset behind a blank and a plus or a minus
+  -- an offset after a blank and a plus or a minus
   offset-dead : (j : ℕ) → (dayOffset s j ≡ none) ⊎ Dead s j
   unfolding dayOffset plusOrMinus byte
   offset-dead j = go (blank s j) refl
@@ -120,7 +120,7 @@ module _ (s : List ℕ) where
   abbrev pub DeadAfter : {A : Type 0} → A → ℕ → Type 0
   DeadAfter a j = Dead s j
 
-  -- weekdays without entries and days, and what the second edition reads behind them
+  -- weekdays without entries and days, and what the second edition reads after them
   plain-wide : (first last j : ℕ) → Wide DeadAfter (got (plain first last) j)
       (follow s j (follow s j (bracketed s j) pure (pure noMarks)) (λ m. λ s j. follow s j (anyDays s j) (λ d. pure (rawWeekdays first last m d)) nothing) nothing)
   unfolding anyDays
@@ -132,23 +132,25 @@ module _ (s : List ℕ) where
       go (inl e) (inr d) = lost d
       go (inr d) f = lost d
 
-  behind-wide : (first i : ℕ) → Wide DeadAfter (weekdayBehind First first s i) (weekdayBehind Second first s i)
-  unfolding narrowBehind wideBehind untilWeekday withEntries anyDays
-  behind-wide first i = go (lastWeekday s i) refl
+  after-wide : (first i : ℕ) → Wide DeadAfter (weekdayAfter First first s i) (weekdayAfter Second first s i)
+  unfolding narrowAfter wideAfter untilWeekday withEntries anyDays
+  after-wide first i = go (lastWeekday s i) refl
     where
-      -- behind entries both read days
-      days : (m : Marks) (j : ℕ) (r : Read RawDays) → Wide {A = RawWeekdays} DeadAfter (follow s i (follow s j (follow s j r pure (pure noDays)) (λ d. pure (rawWeekdays first first m d)) nothing) pure (pure (plain first first))) (follow s j (follow s j r pure (pure noDays)) (λ d. pure (rawWeekdays first first m d)) nothing)
+      -- after entries both read days
+      days : (m : Marks) (j : ℕ) (r : Read RawDays) →
+          Wide {A = RawWeekdays} DeadAfter (follow s i (follow s j (follow s j r pure (pure noDays)) (λ d. pure (rawWeekdays first first m d)) nothing) pure (pure
+          (plain first first))) (follow s j (follow s j r pure (pure noDays)) (λ d. pure (rawWeekdays first first m d)) nothing)
       days m j (got d k) = same
       days m j none = same
       days m j (refused k p) = same
 
-      alone : lastWeekday s i ≡ none → (r : Read Marks) → bracketed s i ≡ r → (dayOffset s i ≡ none) ⊎ Dead s i → Wide DeadAfter (weekdayBehind First first s i) (weekdayBehind Second first s i)
+      alone : lastWeekday s i ≡ none → (r : Read Marks) → bracketed s i ≡ r → (dayOffset s i ≡ none) ⊎ Dead s i → Wide DeadAfter (weekdayAfter First first s i) (weekdayAfter Second first s i)
       alone e (got m j) f d = rw (e, f) (days m j (dayOffset s j))
       alone e none f (inl d) = rw (e, f, d) same
       alone e none f (inr d) = rw (e, f) (lost d)
       alone e (refused k p) f d = rw (e, f) (lost tt)
 
-      go : (r : Read ℕ) → lastWeekday s i ≡ r → Wide DeadAfter (weekdayBehind First first s i) (weekdayBehind Second first s i)
+      go : (r : Read ℕ) → lastWeekday s i ≡ r → Wide DeadAfter (weekdayAfter First first s i) (weekdayAfter Second first s i)
       go (got last j) e = rw e (plain-wide first last j)
       go none e = alone e (bracketed s i) refl (offset-dead i)
       go (refused k p) e = rw e (lost tt)
@@ -162,7 +164,7 @@ module _ (s : List ℕ) where
   unfolding weekdayItem weekdayShape
   weekday-wide i =
       wide-branch DeadAfter DeadAfter s i (λ r. judged i (weekdayMeaning r)) (λ r. judged i (weekdayMeaning r)) nothing nothing
-      (wide-then DeadAfter s i (weekdayBehind First) (weekdayBehind Second) (name weekday s i) (λ first j e. behind-wide first j))
+      (wide-then DeadAfter s i (weekdayAfter First) (weekdayAfter Second) (name weekday s i) (λ first j e. after-wide first j))
       (λ r j e. same) (λ r j e d. judged-dead i j (weekdayMeaning r) d) same
 
   -- ---- times

@@ -1,4 +1,4 @@
--- The rules of a text, by the first edition and by the second: behind a place where it reads nothing more, the first refuses the text.
+-- The rules of a text, by the first edition and by the second: after a place where it reads nothing more, the first refuses the text.
 use Prim.Native.Nat.{ℕ, zero, suc, _-_, _<_}
 use mathlib.Core.Bool.{Bool, true, false, _&&_}
 use mathlib.Core.List.{List, [], _∷_}
@@ -20,10 +20,10 @@ use Rattle.names.proofs.Local.{past-one}
 use Rattle.names.proofs.Search.{no-word}
 use Rattle.names.proofs.Skips.{skip-stop, skip-sure}
 use Rattle.records.specs.declared.Item.{Item}
-use Rattle.times.specs.Times.{clock, movedEvent, rawTime}
+use Rattle.times.specs.Times.{clock, eventWithOffset, rawTime}
 use Rattle.times.specs.Spans.{spanShape, timeItem}
 use Rattle.items.specs.Musts.{missing, must}
-use Rattle.items.specs.Kinds.{apart, Placed, itemOf, itemIn}
+use Rattle.items.specs.Kinds.{afterBlank, Placed, itemOf, itemIn}
 use Rattle.items.specs.declared.Kind.{Kind}
 use Rattle.items.specs.declared.Kind.the-variants.{Years, MonthDays, Weeks, WeekNumbers, Weekdays, LastWeekdays, Holidays, LastHolidays, Times}
 use Rattle.items.proofs.Blanks.{blanks-again}
@@ -32,7 +32,7 @@ use Rattle.rules.specs.Comments.{noComment, comment}
 use Rattle.rules.specs.Modifiers.{tailOf, modifier}
 use Rattle.rules.specs.Rows.{small, first, listed, following, isWide}
 use Rattle.rules.specs.Pieces.{itemFrom, goesOn, afterColon, colonSign, colon, more, plainEnd, end}
-use Rattle.rules.specs.Rules.{opening, Rule, ruleOf, behind, rule}
+use Rattle.rules.specs.Rules.{opening, Rule, ruleOf, afterOpening, rule}
 use Rattle.rules.specs.Separators.{commaBlank, bars, separator, next}
 use Rattle.rules.specs.declared.Next.{Next}
 use Rattle.rules.specs.declared.Next.the-variants.{Another, Finished}
@@ -85,7 +85,8 @@ module _ (s : List ℕ) where
   unfolding itemIn
   in-wide [] i = same
   in-wide (k ∷ ks) i =
-      wide-branch (λ (a : Placed) j. Dead s j × WeekKind k) DeadKind s i (λ (a : Placed). pure (a, k)) (λ (a : Placed). pure (a, k)) (itemIn First ks) (itemIn Second ks) (of-wide k i) (λ a j e. same) (λ a j e d. d) (in-wide ks i)
+      wide-branch (λ (a : Placed) j. Dead s j × WeekKind k) DeadKind s i (λ (a : Placed). pure (a, k)) (λ (a : Placed). pure (a, k)) (itemIn First ks) (itemIn Second ks)
+      (of-wide k i) (λ a j e. same) (λ a j e d. d) (in-wide ks i)
 
   -- ---- pieces
 
@@ -95,11 +96,11 @@ module _ (s : List ℕ) where
   must-wide : (m n : Reader (Placed × Stage)) (i : ℕ) → Wide DeadStage (m s i) (n s i) → Wide DeadStage (must m s i) (must n s i)
   must-wide m n i w = wide-or DeadStage s i missing missing w same
 
-  apart-wide : (ks : List Kind) (i : ℕ) → Wide DeadStage (apart (itemFrom First ks) s i) (apart (itemFrom Second ks) s i)
-  apart-wide ks i = wide-then DeadStage s i (λ _. itemFrom First ks) (λ _. itemFrom Second ks) (blank s i) (λ _ j e. from-wide ks j)
+  afterBlank-wide : (ks : List Kind) (i : ℕ) → Wide DeadStage (afterBlank (itemFrom First ks) s i) (afterBlank (itemFrom Second ks) s i)
+  afterBlank-wide ks i = wide-then DeadStage s i (λ _. itemFrom First ks) (λ _. itemFrom Second ks) (blank s i) (λ _ j e. from-wide ks j)
 
   colon-wide : (i : ℕ) → Wide DeadStage (afterColon First s i) (afterColon Second s i)
-  colon-wide i = must-wide (apart (itemFrom First small)) (apart (itemFrom Second small)) i (apart-wide small i)
+  colon-wide i = must-wide (afterBlank (itemFrom First small)) (afterBlank (itemFrom Second small)) i (afterBlank-wide small i)
 
   more-wide : (x : Stage) (i : ℕ) → Wide DeadStage (more First x s i) (more Second x s i)
   unfolding more goesOn colon
@@ -107,10 +108,11 @@ module _ (s : List ℕ) where
   more-wide Always i = same
   more-wide Colon i = colon-wide i
   more-wide (After k) i =
-      wide-or DeadStage s i _ _ (wide-then DeadStage s i (λ _. must (itemFrom First (listed k))) (λ _. must (itemFrom Second (listed k))) (comma s i) (λ _ j e. must-wide (itemFrom First (listed k)) (itemFrom Second (listed k)) j (from-wide (listed k) j)))
-      (wide-or DeadStage s i _ _ (wide-then DeadStage s i (λ _. afterColon First) (λ _. afterColon Second) (colonSign k s i) (λ _ j e. colon-wide j)) (apart-wide (following k) i))
+      wide-or DeadStage s i _ _ (wide-then DeadStage s i (λ _. must (itemFrom First (listed k))) (λ _. must (itemFrom Second (listed k))) (comma s i) (λ _ j e. must-wide
+      (itemFrom First (listed k)) (itemFrom Second (listed k)) j (from-wide (listed k) j)))
+      (wide-or DeadStage s i _ _ (wide-then DeadStage s i (λ _. afterColon First) (λ _. afterColon Second) (colonSign k s i) (λ _ j e. colon-wide j)) (afterBlank-wide (following k) i))
 
-  -- ---- behind a dead place
+  -- ---- after a dead place
 
   -- no time begins with a sign
   no-digit : (k : ℕ) → Sign (getD s k 0) → digit s k ≡ none
@@ -122,7 +124,7 @@ module _ (s : List ℕ) where
   no-hour k h = rw (no-digit k h)
 
   no-time : (k : ℕ) → Sign (getD s k 0) → timeItem First s k ≡ none
-  unfolding timeItem spanShape rawTime clock movedEvent byte
+  unfolding timeItem spanShape rawTime clock eventWithOffset byte
   no-time k h = rw (no-hour k h, name-none s k event (no-word s k (omega (arith, h .1))), one-is (eqb 40) refl s k refl (ne-eqb 40 (getD s k 0) (λ q. omega (arith, h .0))))
 
   -- a blank begins with a byte 32
@@ -130,7 +132,8 @@ module _ (s : List ℕ) where
   unfolding blank blanks byte one
   blank-byte j {k} e = go (ltb j (length s)) (eqb 32 (getD s j 0)) refl e
     where
-      go : (t u : Bool) → eqb 32 (getD s j 0) ≡ u → follow s j (follow s j (when (t && u) (got (getD s j 0) (suc j))) (λ _. pure (tt {0})) nothing) (λ _. skip (eqb 32)) nothing ≡ got tt k → getD s j 0 ≡ 32
+      go : (t u : Bool) → eqb 32 (getD s j 0) ≡ u →
+          follow s j (follow s j (when (t && u) (got (getD s j 0) (suc j))) (λ _. pure (tt {0})) nothing) (λ _. skip (eqb 32)) nothing ≡ got tt k → getD s j 0 ≡ 32
       go true true h e = sym (eqb-true 32 (getD s j 0) h)
       go true false h e = absurd (let z : _≡_ {A = ℕ} 0 1 = cc in omega arith)
       go false u h e = absurd (let z : _≡_ {A = ℕ} 0 1 = cc in omega arith)
@@ -150,8 +153,8 @@ module _ (s : List ℕ) where
   no-comma j (bracket h) = rw (no-byte 44 j (λ q. omega arith) (λ q. omega arith))
   no-comma j (signed k e h) = let b = blank-byte j e in rw (no-byte 44 j (λ q. omega arith) (λ q. omega arith))
 
-  -- no time behind a blank
-  no-times : (j : ℕ) → Dead s j → apart (itemFrom First (Times ∷ [])) s j ≡ none
+  -- no time after a blank
+  no-times : (j : ℕ) → Dead s j → afterBlank (itemFrom First (Times ∷ [])) s j ≡ none
   unfolding itemIn itemOf
   no-times j (bracket h) = rw (no-blank j h)
   no-times j (signed k e h) = rw (e, no-time k h)
@@ -169,7 +172,7 @@ module _ (s : List ℕ) where
   dead-more Times j w d = absurd w
 
   -- no modifier
-  no-modifier : (j : ℕ) → Dead s j → apart modifier s j ≡ none
+  no-modifier : (j : ℕ) → Dead s j → afterBlank modifier s j ≡ none
   unfolding modifier comment
   no-modifier j (bracket h) = rw (no-blank j h)
   no-modifier j (signed k e h) = rw (e, name-none s k names.modifier (no-word s k (omega (arith, h .1))), no-byte 34 k (λ q. omega arith) (λ q. omega (arith, h .0)))
@@ -200,7 +203,9 @@ module _ (s : List ℕ) where
 
   dead-after : (r : Rule) (j : ℕ) → Dead s j → Lost Never (afterRule r s j)
   unfolding blanks
-  dead-after r j (bracket h) = after-lost r j j (skip-stop (eqb 32) s j (inside s j (λ q. omega arith)) (ne-eqb 32 (getD s j 0) (λ q. omega arith))) (no-next j (λ q. omega arith) (λ q. omega arith) (λ q. omega arith) (λ q. omega arith))
+  dead-after r j (bracket h) =
+      after-lost r j j (skip-stop (eqb 32) s j (inside s j (λ q. omega arith)) (ne-eqb 32 (getD s j 0) (λ q. omega arith))) (no-next j (λ q. omega arith)
+      (λ q. omega arith) (λ q. omega arith) (λ q. omega arith))
   dead-after r j (signed k e h) = after-lost r j k (blanks-again s j e .0) (no-next k (λ q. omega (arith, h .0)) (λ q. omega (arith, h .1)) (λ q. h .2 (sym q)) (λ q. omega (arith, h .1)))
 
   -- ---- rules
@@ -210,7 +215,8 @@ module _ (s : List ℕ) where
   unfolding chainIn
   pieces-wide zero x i h = absurd (omega arith)
   pieces-wide (suc n) x i h =
-      wide-branch DeadStage (DeadAfter s) s i (λ a. map (before (a .0)) (chainIn n (more First) end (a .1))) (λ a. map (before (a .0)) (chainIn n (more Second) end (a .1))) (map last (end x)) (map last (end x)) (more-wide x i)
+      wide-branch DeadStage (DeadAfter s) s i (λ a. map (before (a .0)) (chainIn n (more First) end (a .1))) (λ a. map (before (a .0)) (chainIn n (more Second) end
+      (a .1))) (map last (end x)) (map last (end x)) (more-wide x i)
       (λ a j e. let p = past-one (more-local {u = []} First x) e in wide-map (DeadAfter s) (DeadAfter s) s j (before (a .0)) (pieces-wide n (a .1) j (omega (arith, p))) (λ r k d. d))
       (λ a j e d. let p = past-one (more-local {u = []} First x) e in ends n a j (omega (arith, p)) d)
       same
@@ -220,9 +226,9 @@ module _ (s : List ℕ) where
       ends (suc n) a j h d = rw (dead-pieces n (a .1) j (d .1) (d .0)) (d .0)
 
   rule-wide : (separator i : ℕ) → Wide (DeadAfter s) (rule First separator s i) (rule Second separator s i)
-  unfolding rule behind chain
+  unfolding rule afterOpening chain
   rule-wide separator i =
-      wide-then (DeadAfter s) s i (behind First i separator) (behind Second i separator) (opening s i) (λ o j e.
+      wide-then (DeadAfter s) s i (afterOpening First i separator) (afterOpening Second i separator) (opening s i) (λ o j e.
       wide-map (DeadAfter s) (DeadAfter s) s j (ruleOf i separator (o .comment)) (pieces-wide (suc (length s)) (o .stage) j (omega arith)) (λ r k d. d))
 
   parted-wide : (separator i : ℕ) → Wide Never (parted First separator s i) (parted Second separator s i)
@@ -240,7 +246,8 @@ module _ (s : List ℕ) where
   unfolding chainIn
   chain-wide zero x i = same
   chain-wide (suc n) x i =
-      wide-branch Never Never s i (λ a. map (before (a .0)) (chainIn n (moreRules First) noMore (a .1))) (λ a. map (before (a .0)) (chainIn n (moreRules Second) noMore (a .1))) (map last (noMore x)) (map last (noMore x)) (step-wide x i)
+      wide-branch Never Never s i (λ a. map (before (a .0)) (chainIn n (moreRules First) noMore (a .1))) (λ a. map (before (a .0)) (chainIn n (moreRules Second) noMore
+      (a .1))) (map last (noMore x)) (map last (noMore x)) (step-wide x i)
       (λ a j e. wide-map Never Never s j (before (a .0)) (chain-wide n (a .1) j) (λ r k d. d))
       (λ a j e d. absurd d)
       same

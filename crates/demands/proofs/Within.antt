@@ -16,7 +16,7 @@ use Rattle.sheet.proofs.Readings.{sheet-held}
 use Rattle.feed.specs.Lines.{inFirst, lines}
 use Rattle.feed.specs.Feeds.{Reading, readings}
 use Rattle.demands.specs.Feeds.{roomFor, lineRead}
-use Rattle.demands.specs.Within.{NoTen, Before, After, Within, LeftLines, LeftWithin}
+use Rattle.demands.specs.Within.{NoTen, Before, After, Within, UnchangedLines, UnchangedWithin}
 use Rattle.demands.specs.Within as within
 use Rattle.demands.proofs.Feeds.{read-is}
 use Rattle.demands.proofs.Exchange.{exchange, exchange-others}
@@ -150,7 +150,7 @@ module _ (ls x : List (List ℕ)) (n : ℕ) where
       go (no h) = let g : k ≤ length ls = omega arith in room-before ls (l′ ∷ x) n k g ∙ sym (room-before ls (l ∷ x) n k g)
 
   -- what the exchange of l for l′ leaves
-  left-lines : (l l′ s s′ : List ℕ) → lines s ≡ ls ++ (l ∷ x) → lines s′ ≡ ls ++ (l′ ∷ x) → LeftLines s s′ (length ls) n
+  left-lines : (l l′ s s′ : List ℕ) → lines s ≡ ls ++ (l ∷ x) → lines s′ ≡ ls ++ (l′ ∷ x) → UnchangedLines s s′ (length ls) n
   left-lines l l′ s s′ e f =
       let d : Reading = refusal 0 0 in
       let long : length (ls ++ (l′ ∷ x)) ≡ length (ls ++ (l ∷ x)) = simp length-append in
@@ -185,11 +185,13 @@ back [] b h = h
 back (c ∷ a) b h = back a b (h .1)
 
 -- what the exchange leaves of the feed, and of the line
-pub within-line : (p a x y b q : List ℕ) → Within p a x y b q → (n : ℕ) → LeftWithin p a x y b q n
+pub within-line : (p a x y b q : List ℕ) → Within p a x y b q → (n : ℕ) → UnchangedWithin p a x y b q n
 within-line p a x y b q w n =
     let new : NoTen (a ++ (y ++ b)) = both a (y ++ b) (front a (x ++ b) (w .line)) (both y b (w .no-ten) (back x b (back a (x ++ b) (w .line)))) in
     record {
-      feed = left-lines (lines p) (following q) n (a ++ (x ++ b)) (a ++ (y ++ b)) _ _ (line-split p (a ++ (x ++ b)) q (w .starts) (w .line) (w .ends)) (line-split p (a ++ (y ++ b)) q (w .starts) new (w .stays));
+      feed =
+          left-lines (lines p) (following q) n (a ++ (x ++ b)) (a ++ (y ++ b)) _ _ (line-split p (a ++ (x ++ b)) q (w .starts) (w .line) (w .ends)) (line-split p (a ++
+          (y ++ b)) q (w .starts) new (w .stays));
       parts = exchange (w .exchanged) First;
       no-others = exchange-others (w .exchanged);
     }

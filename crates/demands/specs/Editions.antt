@@ -1,4 +1,5 @@
--- The two editions: what the first accepts, the second accepts with the same records and warnings, and never gives 8; the calls with an edition are those without one in edition 1, and give 19 and nothing else in one that is not known.
+-- The two editions: what the first accepts, the second accepts with the same records and warnings, and never gives 8; the calls with an edition are those without one in edition 1,
+-- and give 19 and nothing else in one that is not known.
 use Prim.Native.Nat.{ℕ}
 use mathlib.Core.List.{List}
 use mathlib.Core.Path.{_≡_}

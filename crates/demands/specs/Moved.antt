@@ -43,5 +43,8 @@ movedNext d last next = if last then next else d + next
 
 -- the answer and the records of a part
 abbrev pub movedPart : ℕ → PartAnswer × List (List ℤ) → PartAnswer × List (List ℤ)
-movedPart d r =
-    (partAnswerOf (answerOf (r .0 .number) (movedPlace d (r .0 .number) (r .0 .place)) (r .0 .records) (r .0 .warnings)) (movedNext d (r .0 .last) (r .0 .next)) (r .0 .last), map (movedRecord d) (r .1))
+movedPart d r = (
+  partAnswerOf (answerOf (r .0 .number) (movedPlace d (r .0 .number) (r .0 .place)) (r .0 .records) (r .0 .warnings)) (movedNext d (r .0 .last) (r .0 .next))
+      (r .0 .last),
+  map (movedRecord d) (r .1),
+)

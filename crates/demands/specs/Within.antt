@@ -11,7 +11,7 @@ use lib.ListN.{length}
 use Rattle.sheet.specs.Parts.{begins}
 use Rattle.feed.specs.Lines.{lines}
 use Rattle.names.specs.declared.Manner.the-variants.{First}
-use Rattle.demands.specs.Exchanged.{Exchanged, Left, Was}
+use Rattle.demands.specs.Exchanged.{Exchanged, Unchanged, Was}
 use Rattle.demands.specs.Feeds.{roomFor, lineRead}
 
 -- bytes that are not 10
@@ -39,7 +39,7 @@ pub record Within (p a x y b q : List ℕ) : Type 0 where
   pub no-ten : NoTen y
 
 -- what the exchange leaves of a feed `old`, the line numbered j of which is exchanged in the feed `new`, for a table of n words
-pub record LeftLines (old new : List ℕ) (j n : ℕ) : Type 0 where
+pub record UnchangedLines (old new : List ℕ) (j n : ℕ) : Type 0 where
   pub as-many : length (lines new) ≡ length (lines old)
   pub before : (k : ℕ) → k < j → lineRead new n k ≡ lineRead old n k
   pub same-room : roomFor (lines new) n j ≡ roomFor (lines old) n j
@@ -47,7 +47,7 @@ pub record LeftLines (old new : List ℕ) (j n : ℕ) : Type 0 where
   pub equal-room : lineRead new n j .0 .records ≡ lineRead old n j .0 .records → (k : ℕ) → roomFor (lines new) n k ≡ roomFor (lines old) n k
 
 -- and of that line: each other part of it, for a table of m words; it has no others afterwards
-pub record LeftWithin (p a x y b q : List ℕ) (n : ℕ) : Type 0 where
-  pub feed : LeftLines (p ++ ((a ++ (x ++ b)) ++ q)) (p ++ ((a ++ (y ++ b)) ++ q)) (length (lines p)) n
-  pub parts : (place m : ℕ) → begins (a ++ (x ++ b)) place ≡ true → place ≢ length a → Left First a x y b m place
+pub record UnchangedWithin (p a x y b q : List ℕ) (n : ℕ) : Type 0 where
+  pub feed : UnchangedLines (p ++ ((a ++ (x ++ b)) ++ q)) (p ++ ((a ++ (y ++ b)) ++ q)) (length (lines p)) n
+  pub parts : (place m : ℕ) → begins (a ++ (x ++ b)) place ≡ true → place ≢ length a → Unchanged First a x y b m place
   pub no-others : (place : ℕ) → begins (a ++ (y ++ b)) place ≡ true → place ≢ length a → Was a x y b place

@@ -165,7 +165,8 @@ module _ (u t : Tables) (s : List ℕ) (places n : ℕ) where
 
 module _ {A : Type 0} (a d : Layout A) where
   -- what is kept in a table of answers and in one of records that have room for all is written over them
-  laid-over : (x y : List A) (r : FeedReading) → length (r .1 .0) * a .width ≤ length x → length (r .1 .1) * d .width ≤ length y → (r .0, (keptAll a x 0 (r .1 .0), keptAll d y 0 (r .1 .1))) ≡ writtenFeed a d x y r
+  laid-over : (x y : List A) (r : FeedReading) → length (r .1 .0) * a .width ≤ length x → length (r .1 .1) * d .width ≤ length y →
+      (r .0, (keptAll a x 0 (r .1 .0), keptAll d y 0 (r .1 .1))) ≡ writtenFeed a d x y r
   laid-over x y r h k = rw (all-laid a (r .1 .0) x 0 (rw zero-add h), all-laid d (r .1 .1) y 0 (rw zero-add k))
 
 module _ (u t : Tables) (r : FeedReading) {f : FeedAnswer} {u′ t′ : Tables} (e : (f, (u′, t′)) ≡ feedInto u t r) where
@@ -176,4 +177,6 @@ module _ (u t : Tables) (r : FeedReading) {f : FeedAnswer} {u′ t′ : Tables} 
   in-words h = ap (λ (z : FeedAnswer × (Tables × Tables)). (z .0, (z .1 .0 .0, z .1 .1 .0))) each ∙ laid-over answersAsWords asWords (u .0) (t .0) r (omega (arith, h .answers)) (h .records)
 
   pub in-bytes : Fits (length (u .1) / 16) (wordsIn (length (t .1))) r → (f, (u′ .1, t′ .1)) ≡ writtenFeed answersAsBytes asBytes (u .1) (t .1) r
-  in-bytes h = ap (λ (z : FeedAnswer × (Tables × Tables)). (z .0, (z .1 .0 .1, z .1 .1 .1))) each ∙ laid-over answersAsBytes asBytes (u .1) (t .1) r (omega (arith, h .answers)) (omega (arith, h .records))
+  in-bytes h =
+      ap (λ (z : FeedAnswer × (Tables × Tables)). (z .0, (z .1 .0 .1, z .1 .1 .1))) each
+      ∙ laid-over answersAsBytes asBytes (u .1) (t .1) r (omega (arith, h .answers)) (omega (arith, h .records))

@@ -1,4 +1,4 @@
--- Reading a feed into two tables, one for four-number answers, one for records.
+-- Reading a feed into two tables, one for four-number answers, one for records (docs/RULES.md, 7).
 use Prim.Native.Nat.{ℕ, _*_, _-_, _/_}
 use mathlib.Core.List.{List, [], _∷_, _++_, map}
 use lib.Dec.{ltb}

@@ -1,4 +1,4 @@
--- The lines of a feed: many sheets, one a line, parted by byte 10.
+-- The lines of a feed: many sheets, one a line, parted by byte 10 (docs/RULES.md, 7).
 use Prim.Native.Nat.{ℕ}
 use mathlib.Core.List.{List, [], _∷_}
 use lib.Dec.{eqb}

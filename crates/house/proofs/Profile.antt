@@ -59,8 +59,8 @@ unfolding ofClocks isPlain
 form-is x e =
     let a = both (ofClocks x) (isPlain x) e in
     let c = both (isClock (x .start)) (isClock (x .end)) (a .0) in
-    let p = both (isNever (x .repeats)) (not (x .plus)) (a .1) in
-    record { start = clock-is (x .start) (c .0); end = clock-is (x .end) (c .1); once = never-is (x .repeats) (p .0); closed = closed-is (x .plus) (p .1) }
+    let p = both (isNever (x .repeats)) (not (x .«open_end»)) (a .1) in
+    record { start = clock-is (x .start) (c .0); end = clock-is (x .end) (c .1); once = never-is (x .repeats) (p .0); closed = closed-is (x .«open_end») (p .1) }
 
 is-form : (x : Span) → Form x → allowed x ≡ true
 unfolding ofClocks isPlain isNever

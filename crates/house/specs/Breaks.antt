@@ -1,4 +1,4 @@
--- The first break of rules that were read, leftmost: their places rise.
+-- The first break of rules that were read, leftmost: their places rise (docs/RULES.md, 9).
 use Prim.Native.Nat.{ℕ}
 use mathlib.Core.List.{List, [], _∷_}
 use lib.Dec.{eqb}

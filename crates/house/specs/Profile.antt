@@ -1,4 +1,4 @@
--- The rules of the house profile, a sentence each, and that the judgement says just these.
+-- The rules of the house profile, a sentence each, and that the judgement says just these (docs/RULES.md, 9).
 use Prim.Native.Nat.{ℕ, _≤_, _<_}
 use mathlib.Core.Bool.{true, false}
 use mathlib.Core.List.{List, [], _∷_}
@@ -43,7 +43,7 @@ pub record Form (x : Span) : Type 0 where
   pub start : Clock (x .start)
   pub end : Clock (x .end)
   pub once : x .repeats ≡ Never
-  pub closed : x .plus ≡ false
+  pub closed : x .«open_end» ≡ false
 
 -- its end after its start
 abbrev pub Forward : Span → Type 0

@@ -1,4 +1,4 @@
--- A span: its form, and its order after the earlier ones of its rule.
+-- A span: its form, and its order after the earlier ones of its rule (docs/RULES.md, 9).
 use Prim.Native.Nat.{ℕ}
 use mathlib.Core.Bool.{Bool, true, false, _&&_, not}
 use lib.Dec.{ltb, leb}
@@ -39,7 +39,7 @@ ofClocks x = isClock x.start && isClock x.end
 
 -- without repeat or open end
 unfoldable pub isPlain : Span → Bool
-isPlain x = isNever x.repeats && not x.plus
+isPlain x = isNever x.repeats && not x.«open_end»
 
 abbrev pub allowed : Span → Bool
 allowed x = ofClocks x && isPlain x

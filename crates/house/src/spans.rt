@@ -59,7 +59,11 @@ fn is_plain(x: Span) -> bool
     ensures { λ r. ⌜ r ≡ spans.isPlain x ⌝ }
 {
     let repeats = x.repeats;
-    if is_never(repeats) { !x.plus } else { false }
+    if is_never(repeats) {
+        !x.open_end
+    } else {
+        false
+    }
 }
 
 // A span of clock times up to 24:00, without repeat or open end.

@@ -69,7 +69,7 @@ impl Text {
         self.put_number(size(w))
     }
 
-    // The words of a record, a blank behind each.
+    // The words of a record, a blank after each.
     fn put_words(self, words: [i32; 16]) -> Self {
         let mut next = self;
         for i in 0..16 {

@@ -38,7 +38,8 @@ unfolding blank blanks byte one
 blanks-again s i {j} e = go (ltb i (length s)) (eqb 32 (getD s i 0)) refl refl e
   where
     go : (t u : Bool) → ltb i (length s) ≡ t → eqb 32 (getD s i 0) ≡ u →
-        follow s i (follow s i (when (t && u) (got (getD s i 0) (suc i))) (λ _. pure (tt {0})) nothing) (λ _. skip (eqb 32)) nothing ≡ got tt j → (skip (eqb 32) s i ≡ got tt j) × (skip (eqb 32) s j ≡ got tt j)
+        follow s i (follow s i (when (t && u) (got (getD s i 0) (suc i))) (λ _. pure (tt {0})) nothing) (λ _. skip (eqb 32)) nothing ≡ got tt j →
+        (skip (eqb 32) s i ≡ got tt j) × (skip (eqb 32) s j ≡ got tt j)
     go true true h k e = (skip-more (eqb 32) s i (ltb-true i (length s) h) k ∙ e, ended (eqb 32) s (length s) (suc i) j (omega arith) e)
     go true false h k e = absurd (let z : _≡_ {A = ℕ} 0 1 = cc in omega arith)
     go false u h k e = absurd (let z : _≡_ {A = ℕ} 0 1 = cc in omega arith)

@@ -16,7 +16,7 @@ use Rattle.days.proofs.Cut.{weekdayItem-alike, holidayItem-alike}
 use Rattle.dates.proofs.Cut.{yearItem-alike, weekItem-alike, monthDayItem-alike}
 use Rattle.items.specs.Musts.{missingAt, missing, must}
 use Rattle.names.specs.declared.Manner.{Manner}
-use Rattle.items.specs.Kinds.{apart, Placed, at, weeks, itemOf, itemIn}
+use Rattle.items.specs.Kinds.{afterBlank, Placed, at, weeks, itemOf, itemIn}
 use Rattle.items.specs.declared.Kind.{Kind}
 use Rattle.items.proofs.Quotes.{missing-alike, missing-number}
 use Rattle.items.specs.declared.Kind.the-variants.{Years, MonthDays, Weeks, WeekNumbers, Weekdays, LastWeekdays, Holidays, LastHolidays, Times}
@@ -41,8 +41,8 @@ abbrev pub placedMoves : ℕ → Placed → Placed
 placedMoves n a = (a .0, n + a .1)
 
 module _ {u : List ℕ} where
-  pub apart-local : {A : Type 0} {sh : ℕ → A → A} {k : ℕ} {m′ m : Reader A} → Local Stop sh u false false k m′ m → Local Stop sh u false false 1 (apart m′) (apart m)
-  apart-local M = then-local blank-local (λ _. free M)
+  pub afterBlank-local : {A : Type 0} {sh : ℕ → A → A} {k : ℕ} {m′ m : Reader A} → Local Stop sh u false false k m′ m → Local Stop sh u false false 1 (afterBlank m′) (afterBlank m)
+  afterBlank-local M = then-local blank-local (λ _. free M)
 
   -- an item at its place
   pub at-local : {k : ℕ} {m : Reader Item} → Alike u k m → Local Stop placedMoves u false false k (at m) (at m)
@@ -52,7 +52,7 @@ module _ {u : List ℕ} where
 
   weeks-local : Local Stop placedMoves u false false 1 weeks weeks
   unfolding weeks
-  weeks-local = then-local (name-local names.week) (λ _. must-local (free (apart-local (at-local weekItem-alike))))
+  weeks-local = then-local (name-local names.week) (λ _. must-local (free (afterBlank-local (at-local weekItem-alike))))
 
   pub itemOf-local : (m : Manner) (k : Kind) → Local Stop placedMoves u false false 1 (itemOf m k) (itemOf m k)
   unfolding itemOf

@@ -136,7 +136,8 @@ module _ (m : Manner) (s : List ℕ) (i : ℕ) where
     unfolding kindsOf itemOf
     item-unnamed = pick-then set yearly (Weeks ∷ Weekdays ∷ LastWeekdays ∷ Holidays ∷ LastHolidays ∷ numbered) ∙ go (itemIn m (picked set yearly) s i)
       where
-        go : (r : Read (Placed × Kind)) → follow s i r pure (itemIn m (picked set (Weeks ∷ Weekdays ∷ LastWeekdays ∷ Holidays ∷ LastHolidays ∷ numbered))) ≡ follow s i r pure (itemIn m (picked set numbered))
+        go : (r : Read (Placed × Kind)) → follow s i r pure (itemIn m (picked set
+            (Weeks ∷ Weekdays ∷ LastWeekdays ∷ Holidays ∷ LastHolidays ∷ numbered))) ≡ follow s i r pure (itemIn m (picked set numbered))
         go (got a j) = refl
         go none =
             pick-none set Weeks _ (weeks-none s i w) ∙ pick-none set Weekdays _ (weekday-none s i w m) ∙ pick-none set LastWeekdays _ (weekday-none s i w m)

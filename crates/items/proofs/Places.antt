@@ -17,7 +17,7 @@ use Rattle.dates.specs.Weeks.{weekItem}
 use Rattle.dates.proofs.Cut.{yearItem-alike, weekItem-alike, monthDayItem-alike}
 use Rattle.items.specs.Musts.{missing, must}
 use Rattle.names.specs.declared.Manner.{Manner}
-use Rattle.items.specs.Kinds.{apart, Placed, at, weeks, itemOf, itemIn}
+use Rattle.items.specs.Kinds.{afterBlank, Placed, at, weeks, itemOf, itemIn}
 use Rattle.items.specs.declared.Kind.{Kind}
 use Rattle.items.specs.declared.Kind.the-variants.{Years, MonthDays, Weeks, WeekNumbers, Weekdays, LastWeekdays, Holidays, LastHolidays, Times}
 
@@ -36,8 +36,8 @@ module _ (s : List ℕ) where
   must-upto P i m h = upto-or P s i (m s i) missing h (upto-then P s i _ (blanks s i) (λ _ j e. tt))
 
   -- what stands after a blank
-  pub apart-upto : {A : Type 0} (P : A → ℕ → Type 0) (i : ℕ) (m : Reader A) → ((j : ℕ) → i < j → Upto P (m s j)) → Upto P (apart m s i)
-  apart-upto P i m h = upto-then P s i (λ _. m) (blank s i) (λ _ j e. h j (past-one blank-local e .0))
+  pub afterBlank-upto : {A : Type 0} (P : A → ℕ → Type 0) (i : ℕ) (m : Reader A) → ((j : ℕ) → i < j → Upto P (m s j)) → Upto P (afterBlank m s i)
+  afterBlank-upto P i m h = upto-then P s i (λ _. m) (blank s i) (λ _ j e. h j (past-one blank-local e .0))
 
   -- an item at its place
   at-inside : {k : ℕ} {m : Reader Item} → Alike [] (suc k) m → (i : ℕ) → Upto (Inside i) (at m s i)
@@ -46,8 +46,9 @@ module _ (s : List ℕ) where
   weeks-inside : (i : ℕ) → Upto (Inside i) (weeks s i)
   unfolding weeks
   weeks-inside i =
-      upto-then (Inside i) s i (λ _. must (apart (at weekItem))) (name week s i) (λ _ j e. must-upto (Inside i) j (apart (at weekItem))
-      (apart-upto (Inside i) j (at weekItem) (λ k h. upto-less (Inside k) (Inside i) (λ a l. inside-from a l (omega (arith, past-one (name-local week) e .0))) (at weekItem s k) (at-inside weekItem-alike k))))
+      upto-then (Inside i) s i (λ _. must (afterBlank (at weekItem))) (name week s i) (λ _ j e. must-upto (Inside i) j (afterBlank (at weekItem))
+      (afterBlank-upto (Inside i) j (at weekItem) (λ k h. upto-less (Inside k) (Inside i) (λ a l. inside-from a l (omega (arith, past-one (name-local week) e .0)))
+      (at weekItem s k) (at-inside weekItem-alike k))))
 
   itemOf-inside : (m : Manner) (k : Kind) (i : ℕ) → Upto (Inside i) (itemOf m k s i)
   unfolding itemOf

@@ -14,7 +14,7 @@ use lib.Seq.{drop-cons, getD-append-add, getD-at, drop-append-le, drop-append-ad
 use Rattle.names.specs.Tests.{if_then_else_}
 use Rattle.names.specs.Quotes.{insideOf}
 use Rattle.names.specs.Refusals.{noShape, brokenQuote}
-use Rattle.names.proofs.Local.{Number, Stop, Behind, stop-end, stop-at, Side, At}
+use Rattle.names.proofs.Local.{Number, Stop, Follows, stop-end, stop-at, Side, At}
 use Rattle.names.specs.Read.{refused}
 use Rattle.items.specs.Musts.{hasQuote, atBrokenQuote, missingAt, missing}
 use Rattle.items.specs.Seen.{Lacking}
@@ -66,7 +66,8 @@ module _ (s t : List ℕ) (i : ℕ) (w : Side false s i) where
       same : i < length s → getD (s ++ 59 ∷ t) i 0 ≡ getD s i 0
       same h = List·getD-append s (59 ∷ t) 0 i h
 
-      later : i < length s → hasQuote (drop (suc i) s) ≡ true → (eqb (getD (s ++ 59 ∷ t) (suc i) 0) 34 || not (hasQuote (drop (suc i) (s ++ 59 ∷ t)))) ≡ (eqb (getD s (suc i) 0) 34 || not (hasQuote (drop (suc i) s)))
+      later : i < length s → hasQuote (drop (suc i) s) ≡ true →
+          (eqb (getD (s ++ 59 ∷ t) (suc i) 0) 34 || not (hasQuote (drop (suc i) (s ++ 59 ∷ t)))) ≡ (eqb (getD s (suc i) 0) 34 || not (hasQuote (drop (suc i) s)))
       later h q =
           let n : suc i < length s = quote-bytes s (suc i) q in
           let d : drop (suc i) (s ++ 59 ∷ t) ≡ drop (suc i) s ++ 59 ∷ t = drop-append-le (suc i) s (59 ∷ t) (omega arith) in
@@ -82,11 +83,11 @@ broken-after : (u s : List ℕ) (i : ℕ) → atBrokenQuote (u ++ s) (length u +
 unfolding atBrokenQuote
 broken-after u s i = rw (getD-append-add u s i 0, ← add-suc (length u) i, getD-append-add u s (suc i) 0, drop-append-add u s (suc i))
 
-pub missing-alike : (u s v : List ℕ) (i : ℕ) → Behind Stop v → At v false s i → missingAt (u ++ (s ++ v)) (length u + i) ≡ missingAt s i
+pub missing-alike : (u s v : List ℕ) (i : ℕ) → Follows Stop v → At v false s i → missingAt (u ++ (s ++ v)) (length u + i) ≡ missingAt s i
 unfolding missingAt
 missing-alike u s v i z w = rw (broken-after u (s ++ v) i, cut s v i z w)
   where
-    cut : (s v : List ℕ) (i : ℕ) → Behind Stop v → At v false s i → atBrokenQuote (s ++ v) i ≡ atBrokenQuote s i
+    cut : (s v : List ℕ) (i : ℕ) → Follows Stop v → At v false s i → atBrokenQuote (s ++ v) i ≡ atBrokenQuote s i
     cut s [] i stop-end w = rw append-nil
     cut s (x ∷ t) i (stop-at y) w = broken-cut s t i w
 

@@ -10,25 +10,25 @@ use lib.ListN.{length, getD}
 use Rattle.names.specs.Tests.{if_then_else_, within}
 use Rattle.names.specs.Read.{Read, got, none, refused, Reader, follow, nothing, pure, unless, when, one, _>>_}
 use Rattle.names.specs.Texts.{byte, blank, blanks}
-use Rattle.names.specs.Numbers.{isDigit, digit, enough, upTo, digits, clockBehind, number, year, hour}
+use Rattle.names.specs.Numbers.{isDigit, digit, enough, upTo, digits, clockAfter, number, year, hour}
 use Rattle.names.specs.declared.Manner.{Manner}
 use Rattle.names.specs.Names.{word, name, weekday, month, event, easter, holiday, week}
 use Rattle.names.proofs.Laws.{one-is, within-above, within-range, or-none}
 use Rattle.names.proofs.Search.{no-word, word-letter}
 use Rattle.records.specs.declared.Item.{Item}
-use Rattle.records.proofs.Anywhere.{item-behind}
-use Rattle.times.specs.Times.{clock, eventAlone, movedEvent, rawTime}
-use Rattle.times.specs.Spans.{spanBehind, spanShape, timeItem, eventItemBehind}
+use Rattle.records.proofs.Anywhere.{item-after}
+use Rattle.times.specs.Times.{clock, eventAlone, eventWithOffset, rawTime}
+use Rattle.times.specs.Spans.{spanAfter, spanShape, timeItem, eventItemAfter}
 use Rattle.times.specs.Meanings.{spanMeaning}
-use Rattle.days.specs.Weekdays.{weekdayBehind, weekdayShape, weekdayMeaning, weekdayItem, weekdayItemBehind}
-use Rattle.days.specs.Holidays.{holidayBehind, holidayShape, holidayMeaning, holidayItem, holidayItemBehind}
-use Rattle.dates.specs.Dates.{optionalYear, dayBehind}
-use Rattle.dates.specs.Years.{yearBehind, yearShape, yearMeaning, yearItem, yearItemBehind}
-use Rattle.dates.specs.MonthDays.{monthItemBehind, monthDayBehind, monthDayItem}
+use Rattle.days.specs.Weekdays.{weekdayAfter, weekdayShape, weekdayMeaning, weekdayItem, weekdayItemAfter}
+use Rattle.days.specs.Holidays.{holidayAfter, holidayShape, holidayMeaning, holidayItem, holidayItemAfter}
+use Rattle.dates.specs.Dates.{optionalYear, dayAfter}
+use Rattle.dates.specs.Years.{yearAfter, yearShape, yearMeaning, yearItem, yearItemAfter}
+use Rattle.dates.specs.MonthDays.{monthItemAfter, monthDayAfter, monthDayItem}
 use Rattle.dates.specs.declared.Year.the-variants.{Absent, Given}
 use Rattle.dates.specs.Weeks.{weekShape, weekItem}
 use Rattle.items.specs.Musts.{missingAt, missing, must}
-use Rattle.items.specs.Kinds.{apart, Placed, at, weeks, itemOf}
+use Rattle.items.specs.Kinds.{afterBlank, Placed, at, weeks, itemOf}
 use Rattle.items.specs.Sets.{beginsWith}
 use Rattle.items.specs.Seen.{atPlace, placeAfter, placeOf, afterName}
 use Rattle.items.specs.declared.Kind.{Kind}
@@ -92,8 +92,8 @@ module _ (s : List ℕ) (i : ℕ) where
     unfolding digit isDigit within
     no-digit = rw (not-below (within 48 57) refl (λ b h. within-above 48 57 b (omega arith) (omega arith)))
 
-    no-bracket : movedEvent s i ≡ none
-    unfolding movedEvent byte
+    no-bracket : eventWithOffset s i ≡ none
+    unfolding eventWithOffset byte
     no-bracket = rw (not-below (eqb 40) refl (λ b h. ne-eqb 40 b (λ e. omega arith)))
 
     -- a time that begins with an event, or none
@@ -101,26 +101,26 @@ module _ (s : List ℕ) (i : ℕ) where
     unfolding rawTime
     timed e = rw (clock-none no-digit, name-is event w e)
 
-    pub event-time : k ≡ event → timeItem m s i ≡ eventItemBehind m i v s j
-    unfolding timeItem spanShape eventItemBehind
-    event-time e = item-behind rawTime spanBehind (spanMeaning m) (timed e)
+    pub event-time : k ≡ event → timeItem m s i ≡ eventItemAfter m i v s j
+    unfolding timeItem spanShape eventItemAfter
+    event-time e = item-after rawTime spanAfter (spanMeaning m) (timed e)
 
     pub other-time : (k ≡ event → ⊥) → timeItem m s i ≡ none
     unfolding timeItem spanShape rawTime
     other-time e = rw (clock-none no-digit, name-other event w e, no-bracket)
 
     -- a weekday, a holiday
-    pub is-weekday : k ≡ weekday → weekdayItem m s i ≡ weekdayItemBehind m i v s j
-    unfolding weekdayItem weekdayShape weekdayItemBehind
-    is-weekday e = item-behind (name weekday) (weekdayBehind m) weekdayMeaning (name-is weekday w e)
+    pub is-weekday : k ≡ weekday → weekdayItem m s i ≡ weekdayItemAfter m i v s j
+    unfolding weekdayItem weekdayShape weekdayItemAfter
+    is-weekday e = item-after (name weekday) (weekdayAfter m) weekdayMeaning (name-is weekday w e)
 
     pub no-weekday : (k ≡ weekday → ⊥) → weekdayItem m s i ≡ none
     unfolding weekdayItem weekdayShape
     no-weekday e = rw (name-other weekday w e)
 
-    pub is-holiday : k ≡ holiday → holidayItem s i ≡ holidayItemBehind i v s j
-    unfolding holidayItem holidayShape holidayItemBehind
-    is-holiday e = item-behind (name holiday) holidayBehind holidayMeaning (name-is holiday w e)
+    pub is-holiday : k ≡ holiday → holidayItem s i ≡ holidayItemAfter i v s j
+    unfolding holidayItem holidayShape holidayItemAfter
+    is-holiday e = item-after (name holiday) holidayAfter holidayMeaning (name-is holiday w e)
 
     pub no-holiday : (k ≡ holiday → ⊥) → holidayItem s i ≡ none
     unfolding holidayItem holidayShape
@@ -131,16 +131,16 @@ module _ (s : List ℕ) (i : ℕ) where
     unfolding yearItem yearShape
     no-year = rw (year-none no-digit)
 
-    pub month-day : monthDayItem s i ≡ monthDayBehind i Absent (k, v) s j
+    pub month-day : monthDayItem s i ≡ monthDayAfter i Absent (k, v) s j
     unfolding monthDayItem
     month-day = rw (no-year-before (year-none no-digit), w)
 
     -- none, where the name begins no date
     no-date : (k ≡ month → ⊥) → (k ≡ easter → ⊥) → monthDayItem s i ≡ none
-    unfolding monthDayBehind monthItemBehind dayBehind
+    unfolding monthDayAfter monthItemAfter dayAfter
     no-date e f = month-day ∙ rw (ne-eqb k easter f, ne-eqb k month e)
 
-    is-weeks : k ≡ week → weeks s i ≡ must (apart (at weekItem)) s j
+    is-weeks : k ≡ week → weeks s i ≡ must (afterBlank (at weekItem)) s j
     unfolding weeks
     is-weeks e = rw (name-is week w e)
 
@@ -167,27 +167,36 @@ module _ (s : List ℕ) (i : ℕ) where
     begun-none Times e = none-at (other-time (eqb-false k event e))
 
     -- after the name, by its kind
-    after-weekday : k ≡ weekday → afterName m i k v ≡ weekdayItemBehind m i v
+    after-weekday : k ≡ weekday → afterName m i k v ≡ weekdayItemAfter m i v
     unfolding afterName
     after-weekday e = rw (eq-eqb k weekday e)
 
-    after-date : (t u : Bool) → eqb k month ≡ t → eqb k easter ≡ u → (t || u) ≡ true → afterName m i k v ≡ monthDayBehind i Absent (k, v)
+    after-date : (t u : Bool) → eqb k month ≡ t → eqb k easter ≡ u → (t || u) ≡ true → afterName m i k v ≡ monthDayAfter i Absent (k, v)
     unfolding afterName
     after-date true u e f h = let d = eqb-true k month e in rw (ne-eqb k weekday (λ q. omega arith), e)
     after-date false true e f h = let d = eqb-true k easter f in rw (ne-eqb k weekday (λ q. omega arith), e, f)
     after-date false false e f h = absurd (true≢false (sym h))
 
-    after-event : k ≡ event → afterName m i k v ≡ eventItemBehind m i v
+    after-event : k ≡ event → afterName m i k v ≡ eventItemAfter m i v
     unfolding afterName
     after-event e = rw (ne-eqb k weekday (λ q. omega arith), ne-eqb k month (λ q. omega arith), ne-eqb k easter (λ q. omega arith), eq-eqb k event e)
 
-    after-holiday : k ≡ holiday → afterName m i k v ≡ holidayItemBehind i v
+    after-holiday : k ≡ holiday → afterName m i k v ≡ holidayItemAfter i v
     unfolding afterName
     after-holiday e = rw (ne-eqb k weekday (λ q. omega arith), ne-eqb k month (λ q. omega arith), ne-eqb k easter (λ q. omega arith), ne-eqb k event (λ q. omega arith), eq-eqb k holiday e)
 
-    after-week : k ≡ week → afterName m i k v ≡ must (apart weekItem)
+    after-week : k ≡ week → afterName m i k v ≡ must (afterBlank weekItem)
     unfolding afterName
-    after-week e = rw (ne-eqb k weekday (λ q. omega arith), ne-eqb k month (λ q. omega arith), ne-eqb k easter (λ q. omega arith), ne-eqb k event (λ q. omega arith), ne-eqb k holiday (λ q. omega arith), eq-eqb k week e)
+    after-week e =
+        rw (
+          ne-eqb k weekday (λ q. omega arith),
+          ne-eqb k month (λ q. omega arith),
+          ne-eqb k easter (λ q. omega arith),
+          ne-eqb k event
+              (λ q. omega arith),
+          ne-eqb k holiday (λ q. omega arith),
+          eq-eqb k week e,
+        )
 
     -- what is missing is missing whatever was to stand there
     lacks : (p : ℕ) → missing {A = Placed} s j ≡ atPlace s i p (missing s j)
@@ -215,7 +224,9 @@ module _ (s : List ℕ) (i : ℕ) where
     unfolding placeOf
     placed-week e = is-weeks e ∙ rw (eq-eqb k week e, after-week e) (go (blank s j) refl)
       where
-        go : (b : Read (Unit {0})) → blank s j ≡ b → follow s j (follow s j b (λ _. at weekItem) nothing) pure missing ≡ atPlace s i (placeAfter (blanks s j)) (follow s j (follow s j b (λ _. weekItem) nothing) pure missing)
+        go : (b : Read (Unit {0})) → blank s j ≡ b →
+            follow s j (follow s j b (λ _. at weekItem) nothing) pure missing ≡ atPlace s i (placeAfter (blanks s j)) (follow s j (follow s j b
+            (λ _. weekItem) nothing) pure missing)
         go (got tt l) e = rw (blanks-again s j e .0) (number l (weekItem s l))
           where
             number : (l : ℕ) (r : Read Item) → follow s j (follow s l r (λ a. pure (a, l)) nothing) pure missing ≡ atPlace s i l (follow s j r pure missing)
@@ -275,7 +286,8 @@ digits-first : (n w a : ℕ) (s : List ℕ) (i : ℕ) {y d : ℕ} → upTo (suc 
 unfolding upTo
 digits-first n w a s i {y} {d} e = go (digit s i) refl e
   where
-    go : (x : Read ℕ) → digit s i ≡ x → follow s i x (λ b. upTo n (suc w - 1) (a * 10 + b)) (enough (suc w) a) ≡ got y d → (b : ℕ) × (j : ℕ) × (digit s i ≡ got b j) × (upTo n w (a * 10 + b) s j ≡ got y d)
+    go : (x : Read ℕ) → digit s i ≡ x → follow s i x (λ b. upTo n (suc w - 1) (a * 10 + b)) (enough (suc w) a) ≡ got y d →
+        (b : ℕ) × (j : ℕ) × (digit s i ≡ got b j) × (upTo n w (a * 10 + b) s j ≡ got y d)
     go (got b j) h q = let z : w ≡ suc w - 1 = omega arith in (b, j, h, ap (λ (x : ℕ). upTo n x (a * 10 + b) s j) z ∙ q)
     go none h q = absurd (let p : none ≡ got y d = rw (ne-eqb (suc w) 0 (λ f. omega arith)) at q in let z : _≡_ {A = ℕ} 0 1 = cc in omega arith)
     go (refused k p) h q = absurd (let z : _≡_ {A = ℕ} 0 1 = cc in omega arith)
@@ -285,7 +297,7 @@ year-digits : (s : List ℕ) (i : ℕ) {y d : ℕ} → year s i ≡ got y d → 
 unfolding number digits
 year-digits s i {y} {d} e = go (upTo 4 4 0 s i) refl e
   where
-    go : (x : Read ℕ) → upTo 4 4 0 s i ≡ x → follow s i x (λ a. unless clockBehind >> pure a) nothing ≡ got y d → (a : ℕ) × (j : ℕ) × (upTo 4 4 0 s i ≡ got a j)
+    go : (x : Read ℕ) → upTo 4 4 0 s i ≡ x → follow s i x (λ a. unless clockAfter >> pure a) nothing ≡ got y d → (a : ℕ) × (j : ℕ) × (upTo 4 4 0 s i ≡ got a j)
     go (got a j) h q = (a, j, h)
     go none h q = absurd (let z : _≡_ {A = ℕ} 0 1 = cc in omega arith)
     go (refused k p) h q = absurd (let z : _≡_ {A = ℕ} 0 1 = cc in omega arith)
@@ -295,12 +307,12 @@ module _ (s : List ℕ) (i : ℕ) {y d : ℕ} (e : year s i ≡ got y d) where
   year-no-word = let f = year-digits s i e in let g = digits-first 3 3 0 s i (f .2) in digit-no-word s i (g .2)
 
   -- the item of a year
-  pub year-item : yearItem s i ≡ yearItemBehind i y s d
-  unfolding yearItem yearShape yearItemBehind
-  year-item = item-behind year yearBehind yearMeaning e
+  pub year-item : yearItem s i ≡ yearItemAfter i y s d
+  unfolding yearItem yearShape yearItemAfter
+  year-item = item-after year yearAfter yearMeaning e
 
   -- the year belongs to a date: a blank, and a name that begins one
-  pub dated-is : {j k v l : ℕ} → blank s d ≡ got tt j → word s j ≡ got (k, v) l → monthDayItem s i ≡ monthDayBehind i (Given y) (k, v) s l
+  pub dated-is : {j k v l : ℕ} → blank s d ≡ got tt j → word s j ≡ got (k, v) l → monthDayItem s i ≡ monthDayAfter i (Given y) (k, v) s l
   unfolding monthDayItem optionalYear
   dated-is b w = rw (e, b, w)
 

@@ -59,7 +59,8 @@ unfolding missing
 missing-apart A s i e = let b = blanks-again s i e in rw (b .0, b .1)
 
 -- a chain whose items take a byte each, and that ends where there is no item
-module _ {S A B : Type 0} (more : S → Reader (A × S)) (end : S → Reader B) (s : List ℕ) (takes : (x : S) (i : ℕ) → Ends (λ j. (i < j) × (j ≤ length s)) (more x s i)) (ends : (x : S) (i : ℕ) → more x s i ≡ none → Sure (end x s i)) where
+module _ {S A B : Type 0} (more : S → Reader (A × S)) (end : S → Reader B) (s : List ℕ) (takes : (x : S) (i : ℕ) →
+    Ends (λ j. (i < j) × (j ≤ length s)) (more x s i)) (ends : (x : S) (i : ℕ) → more x s i ≡ none → Sure (end x s i)) where
   fed-sure : (n : ℕ) (x : S) (i : ℕ) → length s - i < n → Sure (chainIn n more end x s i)
   unfolding chainIn
   fed-sure zero x i h = absurd (omega arith)

@@ -53,7 +53,8 @@ module _ (set : ℕ) where
   weekday-wish =
       let n = weekday in
       skip n set MonthDays _ refl ∙ skip n set Years _ refl ∙ skip n set Weeks _ refl ∙ take n set Weekdays _ refl
-      ∙ ap (wishIf (hasKind set Weekdays) Weekdays) (take n set LastWeekdays _ refl ∙ ap (wishIf (hasKind set LastWeekdays) LastWeekdays) (skip n set Holidays _ refl ∙ skip n set LastHolidays _ refl ∙ no-number n refl))
+      ∙ ap (wishIf (hasKind set Weekdays) Weekdays) (take n set LastWeekdays _ refl ∙ ap (wishIf (hasKind set LastWeekdays) LastWeekdays) (skip n set Holidays _ refl
+      ∙ skip n set LastHolidays _ refl ∙ no-number n refl))
 
   pub holiday-wish : wished holiday (kindsOf set) ≡ wishIf (hasKind set Holidays) Holidays (wishIf (hasKind set LastHolidays) LastHolidays Not)
   unfolding kindsOf beginsWith
@@ -66,7 +67,8 @@ module _ (set : ℕ) where
   unfolding kindsOf beginsWith
   event-wish =
       let n = event in
-      skip n set MonthDays _ refl ∙ skip n set Years _ refl ∙ skip n set Weeks _ refl ∙ skip n set Weekdays _ refl ∙ skip n set LastWeekdays _ refl ∙ skip n set Holidays _ refl ∙ skip n set LastHolidays _ refl
+      skip n set MonthDays _ refl ∙ skip n set Years _ refl ∙ skip n set Weeks _ refl ∙ skip n set Weekdays _ refl ∙ skip n set LastWeekdays _ refl
+      ∙ skip n set Holidays _ refl ∙ skip n set LastHolidays _ refl
       ∙ take n set Times _ refl ∙ ap (wishIf (hasKind set Times) Times) (no-week-number n)
 
   pub week-wish : wished week (kindsOf set) ≡ wishIf (hasKind set Weeks) Weeks Not
@@ -76,7 +78,7 @@ module _ (set : ℕ) where
       skip n set MonthDays _ refl ∙ skip n set Years _ refl ∙ take n set Weeks _ refl
       ∙ ap (wishIf (hasKind set Weeks) Weeks) (skip n set Weekdays _ refl ∙ skip n set LastWeekdays _ refl ∙ skip n set Holidays _ refl ∙ skip n set LastHolidays _ refl ∙ no-number n refl)
 
-  -- behind the month days: none
+  -- after the month days: none
   date-rest : (n : ℕ) → beginsWith n Weeks ≡ false → beginsWith n Weekdays ≡ false → beginsWith n Holidays ≡ false → beginsWith n Times ≡ false → wish n set (Years ∷ Weeks ∷ days) ≡ Not
   unfolding beginsWith
   date-rest n a b c d =

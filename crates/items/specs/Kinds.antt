@@ -1,4 +1,4 @@
--- The kinds of items in a rule, and an item of one of several kinds.
+-- The kinds of items in a rule, and an item of one of several kinds (docs/RULES.md, 2).
 use Prim.Native.Nat.{ℕ}
 use mathlib.Core.List.{List, [], _∷_}
 use Rattle.names.specs.Read.{Reader, branch, nothing, pure, here, _>>=_, _>>_}
@@ -17,8 +17,8 @@ use Rattle.items.specs.declared.Kind.{Kind}
 use Rattle.items.specs.declared.Kind.the-variants.{Years, MonthDays, Weeks, WeekNumbers, Weekdays, LastWeekdays, Holidays, LastHolidays, Times}
 
 -- after a blank
-abbrev pub apart : {A : Type 0} → Reader A → Reader A
-apart m = do
+abbrev pub afterBlank : {A : Type 0} → Reader A → Reader A
+afterBlank m = do
   blank
   m
 
@@ -37,7 +37,7 @@ at m = do
 unfoldable pub weeks : Reader Placed
 weeks = do
   name week
-  must (apart (at weekItem))
+  must (afterBlank (at weekItem))
 
 -- an item of a kind. Weekdays after holidays and holidays after weekdays are kinds of their own, since the list does not go back
 unfoldable pub itemOf : Manner → Kind → Reader Placed

@@ -1,4 +1,4 @@
--- What has to stand at a place, and what is said where it does not.
+-- What has to stand at a place, and what is said where it does not (docs/RULES.md, 6).
 use Prim.Native.Nat.{ℕ, suc}
 use mathlib.Core.List.{List, [], _∷_}
 use mathlib.Core.Bool.{Bool, false, _&&_, _||_, not}

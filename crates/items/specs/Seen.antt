@@ -10,14 +10,14 @@ use Rattle.names.specs.Texts.{blanks}
 use Rattle.names.specs.declared.Manner.{Manner}
 use Rattle.names.specs.Names.{word, weekday, month, event, easter, holiday, week}
 use Rattle.records.specs.declared.Item.{Item}
-use Rattle.times.specs.Spans.{eventItemBehind}
-use Rattle.days.specs.Weekdays.{weekdayItemBehind}
-use Rattle.days.specs.Holidays.{holidayItemBehind}
+use Rattle.times.specs.Spans.{eventItemAfter}
+use Rattle.days.specs.Weekdays.{weekdayItemAfter}
+use Rattle.days.specs.Holidays.{holidayItemAfter}
 use Rattle.dates.specs.Weeks.{weekItem}
-use Rattle.dates.specs.MonthDays.{monthDayBehind}
+use Rattle.dates.specs.MonthDays.{monthDayAfter}
 use Rattle.dates.specs.declared.Year.the-variants.{Absent}
 use Rattle.items.specs.Musts.{missingAt, must}
-use Rattle.items.specs.Kinds.{apart, Placed, itemIn}
+use Rattle.items.specs.Kinds.{afterBlank, Placed, itemIn}
 use Rattle.items.specs.Sets.{beginsWith}
 use Rattle.items.specs.declared.Kind.{Kind}
 use Rattle.items.specs.declared.Lack.{Lack}
@@ -76,10 +76,10 @@ wished n (k ∷ ks) = if beginsWith n k then As k else wished n ks
 -- the item that begins at p with a name of kind n, which is v of its kind, after that name
 unfoldable pub afterName : Manner → ℕ → ℕ → ℕ → Reader Item
 afterName m p n v =
-    if eqb n weekday then weekdayItemBehind m p v
-    else if eqb n month then monthDayBehind p Absent (n, v)
-    else if eqb n easter then monthDayBehind p Absent (n, v)
-    else if eqb n event then eventItemBehind m p v
-    else if eqb n holiday then holidayItemBehind p v
-    else if eqb n week then must (apart weekItem)
+    if eqb n weekday then weekdayItemAfter m p v
+    else if eqb n month then monthDayAfter p Absent (n, v)
+    else if eqb n easter then monthDayAfter p Absent (n, v)
+    else if eqb n event then eventItemAfter m p v
+    else if eqb n holiday then holidayItemAfter p v
+    else if eqb n week then must (afterBlank weekItem)
     else nothing

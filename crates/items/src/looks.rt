@@ -9,7 +9,7 @@ ghost use Rattle.names.specs.Numbers.{year as yearNumber};
 ghost use Rattle.records.specs.Seen.{seenItem};
 ghost use Rattle.dates.specs.Weeks.{weekItem};
 ghost use Rattle.dates.specs.MonthDays.{monthDayItem};
-ghost use Rattle.items.specs.Kinds.{apart, itemIn};
+ghost use Rattle.items.specs.Kinds.{afterBlank, itemIn};
 ghost use Rattle.items.specs.Sets.{hasKind, picked, yearly, numbered, kindsOf};
 ghost use Rattle.items.specs.Seen.{Standing, atPlace, withKind, Finds, afterName, placeOf};
 ghost use Rattle.items.specs.declared.Kind.the-variants.{Years, MonthDays, Times};
@@ -24,11 +24,11 @@ use crate::kinds::has;
 use crate::kinds::wanted_as;
 use crate::musts::must;
 use dates::Year;
-use dates::month_day_item_behind;
+use dates::month_day_item_after;
 use dates::week_item;
-use dates::year_item_behind;
-use days::holiday_item_behind;
-use days::weekday_item_behind;
+use dates::year_item_after;
+use days::holiday_item_after;
+use days::weekday_item_after;
 use names::Cursor;
 use names::EASTER;
 use names::EVENT;
@@ -41,12 +41,12 @@ use names::WEEK;
 use names::WEEKDAY;
 use names::Word;
 use records::ItemRead;
-use times::event_item_behind;
+use times::event_item_after;
 use times::time_item;
 
 // A blank and a week.
-fn week_apart(s: &[u8], c: Cursor) -> ItemRead
-    ensures { λ r. ⌜ apart weekItem (now (s .entry)) (c .at) ≡ seenItem r ⌝ }
+fn week_after_blank(s: &[u8], c: Cursor) -> ItemRead
+    ensures { λ r. ⌜ afterBlank weekItem (now (s .entry)) (c .at) ≡ seenItem r ⌝ }
 {
     let before = c.blank(s);
     let Step::Got(d) = before else {
@@ -71,11 +71,11 @@ fn begun(s: &[u8], m: Manner, c: Cursor, name: u8, value: u8, d: Cursor) -> Item
     ensures { λ r. ⌜ afterName m (c .at) name value (now (s .entry)) (d .at) ≡ seenItem r ⌝ }
 {
     match name {
-        WEEKDAY => weekday_item_behind(s, m, c.at, d, value),
-        MONTH | EASTER => month_day_item_behind(s, c.at, d, Year::Absent, name, value),
-        EVENT => event_item_behind(s, m, c.at, d, value),
-        HOLIDAY => holiday_item_behind(s, c.at, d, value),
-        WEEK => must(s, d, week_apart(s, d)),
+        WEEKDAY => weekday_item_after(s, m, c.at, d, value),
+        MONTH | EASTER => month_day_item_after(s, c.at, d, Year::Absent, name, value),
+        EVENT => event_item_after(s, m, c.at, d, value),
+        HOLIDAY => holiday_item_after(s, c.at, d, value),
+        WEEK => must(s, d, week_after_blank(s, d)),
         _ => ItemRead::Missing,
     }
 }
@@ -117,7 +117,7 @@ fn dated(s: &[u8], c: Cursor, y: u16, d: Cursor) -> ItemRead
     let Word::Got(kind, value, f) = name else {
         return ItemRead::Missing;
     };
-    month_day_item_behind(s, c.at, f, Year::Given(y), kind, value)
+    month_day_item_after(s, c.at, f, Year::Given(y), kind, value)
 }
 
 // A month day at c, where one is wanted and a year stands, up to d.
@@ -142,7 +142,7 @@ fn with_year(s: &[u8], c: Cursor, set: u16, y: u16, d: Cursor) -> Stands
         return date;
     };
     if has(set, YEARS) {
-        found(s, c, year_item_behind(s, c.at, d, y), Kind::Years)
+        found(s, c, year_item_after(s, c.at, d, y), Kind::Years)
     } else {
         Stands::Nothing
     }

@@ -8,7 +8,7 @@ use lib.Dec.{eqb, eqb·suc-zero}
 use Rattle.names.specs.Tests.{within}
 use Rattle.names.specs.Chain.{skip}
 use Rattle.names.specs.Texts.{byte, blanks, blank, comma}
-use Rattle.names.specs.Numbers.{isDigit, digit, enough, upTo, digits, clockBehind, number, year, count, ordinal, short, minutes, hour, minute}
+use Rattle.names.specs.Numbers.{isDigit, digit, enough, upTo, digits, clockAfter, number, year, count, ordinal, short, minutes, hour, minute}
 use Rattle.names.proofs.Local.{Stop, keep, Local, loose, pure-local, branch-local, bind-local, then-local, map-local, unless-local, one-local, ahead-local}
 use Rattle.names.proofs.Chains.{many-local}
 
@@ -52,13 +52,13 @@ pub digits-local : {u : List ℕ} (least most : ℕ) → Local Stop keep u false
 unfolding digits
 digits-local least most = upTo-local most least 0
 
-pub clockBehind-local : {u : List ℕ} → Local Stop keep u false false 1 clockBehind clockBehind
-unfolding clockBehind isDigit within
-clockBehind-local = bind-local (skip-local isDigit refl refl) (λ _. then-local (byte-local 58 refl refl) (λ _. ahead-local isDigit refl))
+pub clockAfter-local : {u : List ℕ} → Local Stop keep u false false 1 clockAfter clockAfter
+unfolding clockAfter isDigit within
+clockAfter-local = bind-local (skip-local isDigit refl refl) (λ _. then-local (byte-local 58 refl refl) (λ _. ahead-local isDigit refl))
 
 pub number-local : {u : List ℕ} (least most : ℕ) → Local Stop keep u false false least (number least most) (number least most)
 unfolding number
-number-local least most = then-local (digits-local least most) (λ a. then-local (unless-local clockBehind-local) (λ _. pure-local a))
+number-local least most = then-local (digits-local least most) (λ a. then-local (unless-local clockAfter-local) (λ _. pure-local a))
 
 module _ {u : List ℕ} where
   pub year-local : Local Stop keep u false false 4 year year

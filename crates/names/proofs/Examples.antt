@@ -6,7 +6,7 @@ use Rattle.names.specs.Tests.{within}
 use Rattle.names.specs.Read.{Read, got, none, one, ahead}
 use Rattle.names.specs.Chain.{chainIn, chain, many, skip}
 use Rattle.names.specs.Texts.{bytes, byte, allOf}
-use Rattle.names.specs.Numbers.{isDigit, digit, upTo, digits, clockBehind, number, year, count, ordinal, short, minutes}
+use Rattle.names.specs.Numbers.{isDigit, digit, upTo, digits, clockAfter, number, year, count, ordinal, short, minutes}
 use Rattle.names.specs.Names.{names, spelledSo, lower, letter, firstOf, word, name, weekday, month, event, modifier, holiday, day}
 use Rattle.names.specs.Spellings.{allSmall, written, spelt}
 use Rattle.names.specs.declared.Spelling.the-variants.{Small, Capital, Other}
@@ -20,14 +20,15 @@ numbers =
     ∷ minutes (bytes "/605") 1 ∷ minutes (bytes "/5") 1 ∷ []
 
 numbers-right : numbers ≡ got 2020 4 ∷ got 1899 4 ∷ none ∷ none ∷ got 2 5 ∷ got 99999 5 ∷ none ∷ got 1 1 ∷ none ∷ got 5 6 ∷ got 1 5 ∷ none ∷ got 60 3 ∷ none ∷ []
-unfolding numbers number digits upTo digit isDigit within clockBehind skip many chain chainIn byte one ahead
+unfolding numbers number digits upTo digit isDigit within clockAfter skip many chain chainIn byte one ahead
 numbers-right = refl
 
 -- names: the longest of the table, in any case or spelled so
 words : List (Read ℕ)
 words =
     name weekday (bytes "sunset") 0 ∷ name event (bytes "SunSet+") 0 ∷ name weekday (bytes "Su-Sa") 0 ∷ name weekday (bytes "week 1") 0 ∷ name weekday (bytes "Week 1") 0
-    ∷ name holiday (bytes "PH") 0 ∷ name holiday (bytes "ph") 0 ∷ name day (bytes "days") 0 ∷ name day (bytes "Days") 0 ∷ name month (bytes "2020 dEC 25") 5 ∷ name modifier (bytes "OFF") 0 ∷ name month (bytes "Ma") 0
+    ∷ name holiday (bytes "PH") 0 ∷ name holiday (bytes "ph") 0 ∷ name day (bytes "days") 0 ∷ name day (bytes "Days") 0 ∷ name month
+    (bytes "2020 dEC 25") 5 ∷ name modifier (bytes "OFF") 0 ∷ name month (bytes "Ma") 0
     ∷ name month (bytes "@pr") 0 ∷ name month (bytes "`pr") 0 ∷ name weekday (bytes "S[") 0 ∷ name weekday (bytes "S{") 0 ∷ name weekday (bytes "-o") 0 ∷ []
 
 words-right : words ≡ none ∷ got 3 6 ∷ got 7 2 ∷ none ∷ got 3 2 ∷ got 1 2 ∷ none ∷ got 0 4 ∷ none ∷ got 12 8 ∷ got 1 3 ∷ none ∷ none ∷ none ∷ none ∷ none ∷ none ∷ []

@@ -17,5 +17,5 @@ pub mod Search
 pub mod Lists
 pub mod Longest
 pub mod Letters
-pub mod Apart
+pub mod OneAnswer
 pub mod Examples

@@ -16,22 +16,22 @@ use Rattle.names.specs.Read.{Read, got, none, refused, Reader, follow, b
 use Rattle.names.specs.Texts.{byte}
 use Rattle.names.specs.Refusals.{greatest}
 
--- ---- the text s stands behind u and before v
+-- ---- the text s stands after u and before v
 
 -- what v may be: nothing (Ended), or nothing or what begins with a `;` (Stop)
 pub data Tail : Type 0 where
   Ended Stop : Tail
 
-pub data Behind : Tail → List ℕ → Type 0 where
-  stop-end : {Q : Tail} → Behind Q []
-  stop-at : (t : List ℕ) → Behind Stop (59 ∷ t)
+pub data Follows : Tail → List ℕ → Type 0 where
+  stop-end : {Q : Tail} → Follows Q []
+  stop-at : (t : List ℕ) → Follows Stop (59 ∷ t)
 
 -- a place of s from which on the quotes pair (a is false), or do not (a is true: the place stands inside)
 pub record Side (a : Bool) (s : List ℕ) (i : ℕ) : Type 0 where
   pub fits : i ≤ length s
   pub side : insideOf (drop i s) ≡ a
 
--- where something stands behind s, a place of s on side a
+-- where something stands after s, a place of s on side a
 abbrev pub At : List ℕ → Bool → List ℕ → ℕ → Type 0
 At [] a s i = Unit {0}
 At (x ∷ t) a s i = Side a s i
@@ -67,11 +67,11 @@ moved sh n (refused k p) = refused k (n + p)
 abbrev pub keep : {A : Type 0} → ℕ → A → A
 keep n a = a
 
--- m, read at a place on side a, takes k bytes at least and ends on side c of its text; behind u and before a v as Q says, m′ reads the same, moved.
+-- m, read at a place on side a, takes k bytes at least and ends on side c of its text; after u and before a v as Q says, m′ reads the same, moved.
 -- Where the place b, at which m may refuse, is a place of its text, so is each at which it refuses
 pub record LocalFrom {A : Type 0} (b : ℕ) (Q : Tail) (sh : ℕ → A → A) (u : List ℕ) (a c : Bool) (k : ℕ) (m′ m : Reader A) : Type 0 where
-  pub ends : (s v : List ℕ) (i : ℕ) → Behind Q v → At v a s i → Ends (λ j. Past k s i j × At v c s j) (m s i)
-  pub same : (s v : List ℕ) (i : ℕ) → Behind Q v → At v a s i → m′ (u ++ (s ++ v)) (length u + i) ≡ moved sh (length u) (m s i)
+  pub ends : (s v : List ℕ) (i : ℕ) → Follows Q v → At v a s i → Ends (λ j. Past k s i j × At v c s j) (m s i)
+  pub same : (s v : List ℕ) (i : ℕ) → Follows Q v → At v a s i → m′ (u ++ (s ++ v)) (length u + i) ≡ moved sh (length u) (m s i)
   pub near : (s : List ℕ) (i : ℕ) → b ≤ max i (length s) → Near (max i (length s)) (m s i)
 
 -- the same of a reader that knows no place before its own
@@ -85,7 +85,7 @@ ends-map h none p = tt
 ends-map h (refused k q) p = p
 
 module _ {A : Type 0} {Q : Tail} {sh : ℕ → A → A} {a c : Bool} {k : ℕ} {m′ m : Reader A} where
-  -- what takes a byte at least ends behind its place and in its text, at any place of any text
+  -- what takes a byte at least ends after its place and in its text, at any place of any text
   pub takes : {u : List ℕ} → Local Q sh u a c (suc k) m′ m → (s : List ℕ) (i : ℕ) → Ends (λ j. (i < j) × (j ≤ length s)) (m s i)
   takes M s i = ends-map (λ j p. omega arith) (m s i) (M .ends s [] i stop-end tt)
 
@@ -96,11 +96,11 @@ module _ {A : Type 0} {Q : Tail} {sh : ℕ → A → A} {a c : Bool} {k : ℕ} {
   pub past : Local Q sh [] a c k m′ m → {s : List ℕ} {i : ℕ} {x : A} {j : ℕ} → m s i ≡ got x j → Past k s i j
   past M {s} {i} e = (rw e at (M .ends s [] i stop-end tt)) .0
 
--- fewer texts may stand behind
+-- fewer texts may stand after
 pub narrow : {A : Type 0} {Q : Tail} {sh : ℕ → A → A} {u : List ℕ} {a c : Bool} {k : ℕ} {m′ m : Reader A} → Local Stop sh u a c k m′ m → Local Q sh u a c k m′ m
 narrow M = record { ends = λ s v i z w. M .ends s v i (stops z) w; same = λ s v i z w. M .same s v i (stops z) w; near = M .near }
   where
-    stops : {Q : Tail} {v : List ℕ} → Behind Q v → Behind Stop v
+    stops : {Q : Tail} {v : List ℕ} → Follows Q v → Follows Stop v
     stops stop-end = stop-end
     stops (stop-at t) = stop-at t
 
@@ -161,12 +161,12 @@ module _ {A B : Type 0} {p : ℕ} {Q : Tail} {sh : ℕ → A → A} {sh₂ : ℕ
       near s i h none e w = N .near s i h
       near s i h (refused y q) e w = w
 
-      ends : (s v : List ℕ) (i : ℕ) → Behind Q v → At v a s i → (x : Read A) → Ends (λ j. Past k s i j × At v b s j) x → Ends (λ j. Past (k + l) s i j × At v c s j) (follow s i x f n)
+      ends : (s v : List ℕ) (i : ℕ) → Follows Q v → At v a s i → (x : Read A) → Ends (λ j. Past k s i j × At v b s j) x → Ends (λ j. Past (k + l) s i j × At v c s j) (follow s i x f n)
       ends s v i z w (got x j) p = ends-map (λ t q. (omega (arith, p .0, q .0), q .1)) (f x s j) (F x .ends s v j z (p .1))
       ends s v i z w none p = N .ends s v i z w
       ends s v i z w (refused e q) p = p
 
-      same : (s v : List ℕ) (i : ℕ) → Behind Q v → At v a s i → (x : Read A) → Ends (λ j. Past k s i j × At v b s j) x →
+      same : (s v : List ℕ) (i : ℕ) → Follows Q v → At v a s i → (x : Read A) → Ends (λ j. Past k s i j × At v b s j) x →
           follow (u ++ (s ++ v)) (length u + i) (moved sh (length u) x) f′ n′ ≡ moved sh₂ (length u) (follow s i x f n)
       same s v i z w (got x j) p = F x .same s v j z (p .1)
       same s v i z w none p = N .same s v i z w
@@ -189,7 +189,8 @@ module _ {Q : Tail} {u : List ℕ} where
   then-moved f′ f M F = loose (branch-moved {l = 0} f′ f M F nothing-local) (omega arith)
 
   -- the place, and a reader that may refuse there
-  pub here-then : {A : Type 0} {sh : ℕ → A → A} {a c : Bool} {k : ℕ} (f′ f : ℕ → Reader A) → ((p : ℕ) → LocalFrom p Q sh u a c k (f′ (length u + p)) (f p)) → Local Q sh u a c k (branch here f′ nothing) (branch here f nothing)
+  pub here-then : {A : Type 0} {sh : ℕ → A → A} {a c : Bool} {k : ℕ} (f′ f : ℕ → Reader A) → ((p : ℕ) → LocalFrom p Q sh u a c k (f′ (length u + p)) (f p)) →
+      Local Q sh u a c k (branch here f′ nothing) (branch here f nothing)
   here-then f′ f F = record { ends = λ s v i z w. F i .ends s v i z w; same = λ s v i z w. F i .same s v i z w; near = λ s i h. F i .near s i (omega arith) }
 
   -- the same for a value that holds none
@@ -203,15 +204,18 @@ module _ {Q : Tail} {u : List ℕ} where
   map-local f′ f h M = then-moved (λ x. pure (f′ x)) (λ x. pure (f x)) M (λ x. rw (h x) (pure-local (f x)))
 
   -- one reader or another
-  pub or-local : {A : Type 0} {p : ℕ} {sh : ℕ → A → A} {a c : Bool} {k : ℕ} {m′ m n′ n : Reader A} → Local Q sh u a c k m′ m → LocalFrom p Q sh u a c k n′ n → LocalFrom p Q sh u a c k (branch m′ pure n′) (branch m pure n)
+  pub or-local : {A : Type 0} {p : ℕ} {sh : ℕ → A → A} {a c : Bool} {k : ℕ} {m′ m n′ n : Reader A} → Local Q sh u a c k m′ m → LocalFrom p Q sh u a c k n′ n →
+      LocalFrom p Q sh u a c k (branch m′ pure n′) (branch m pure n)
   or-local M N = loose (branch-moved pure pure M (λ x. pure-local x) (loose N (omega arith))) (omega arith)
 
   -- a reader, or a value
-  pub maybe-local : {A : Type 0} {sh : ℕ → A → A} {a : Bool} {k : ℕ} {m′ m : Reader A} → Local Q sh u a a k m′ m → (x : A) → Local Q sh u a a 0 (branch m′ pure (pure (sh (length u) x))) (branch m pure (pure x))
+  pub maybe-local : {A : Type 0} {sh : ℕ → A → A} {a : Bool} {k : ℕ} {m′ m : Reader A} → Local Q sh u a a k m′ m → (x : A) →
+      Local Q sh u a a 0 (branch m′ pure (pure (sh (length u) x))) (branch m pure (pure x))
   maybe-local M x = or-local (free M) (pure-local x)
 
   -- where a reader finds none
-  pub unless-local : {A : Type 0} {a c : Bool} {k : ℕ} {m′ m : Reader A} → Local Q keep u a c k m′ m → Local Q keep u a a 0 (branch m′ (λ _. nothing) (pure tt)) (branch m (λ _. nothing) (pure (tt {0})))
+  pub unless-local : {A : Type 0} {a c : Bool} {k : ℕ} {m′ m : Reader A} → Local Q keep u a c k m′ m →
+      Local Q keep u a a 0 (branch m′ (λ _. nothing) (pure tt)) (branch m (λ _. nothing) (pure (tt {0})))
   unless-local M = branch-local {k = 0} {l = 0} (free M) (λ x. nothing-local) (pure-local tt)
 
 -- ---- one byte
@@ -229,8 +233,8 @@ when-moved : {A : Type 0} (sh : ℕ → A → A) (n : ℕ) (t : Bool) (x : Read 
 when-moved sh n true x = refl
 when-moved sh n false x = refl
 
--- a test of the text and the place that is the same behind u and before v
-module _ {Q : Tail} {u : List ℕ} {a : Bool} (t : List ℕ → ℕ → Bool) (alike : (s v : List ℕ) (i : ℕ) → Behind Q v → At v a s i → t (u ++ (s ++ v)) (length u + i) ≡ t s i) where
+-- a test of the text and the place that is the same after u and before v
+module _ {Q : Tail} {u : List ℕ} {a : Bool} (t : List ℕ → ℕ → Bool) (alike : (s v : List ℕ) (i : ℕ) → Follows Q v → At v a s i → t (u ++ (s ++ v)) (length u + i) ≡ t s i) where
   pub look-local : Local Q keep u a a 0 (λ s i. only (t s i) s i) (λ s i. only (t s i) s i)
   look-local =
       record {
@@ -243,30 +247,31 @@ module _ {Q : Tail} {u : List ℕ} {a : Bool} (t : List ℕ → ℕ → Bool) (a
 pub only-local : {Q : Tail} {u : List ℕ} {a : Bool} (t : Bool) → Local Q keep u a a 0 (only t) (only t)
 only-local t = look-local (λ s i. t) (λ s v i z w. refl)
 
--- two places behind u compare as they do in their text
+-- two places after u compare as they do in their text
 pub compare-add : (n i j : ℕ) → compare (n + i) (n + j) ≡ compare i j
 compare-add zero i j = simp zero-add
 compare-add (suc n) i j = simp (suc-add, compare·suc-suc) (compare-add n i j)
 
--- one byte, behind u
-one-behind : (p : ℕ → Bool) (u s : List ℕ) (i : ℕ) → one p (u ++ s) (length u + i) ≡ moved keep (length u) (one p s i)
+-- one byte, after u
+one-after : (p : ℕ → Bool) (u s : List ℕ) (i : ℕ) → one p (u ++ s) (length u + i) ≡ moved keep (length u) (one p s i)
 unfolding one
-one-behind p u s i =
-    rw (getD-append-add u s i 0, length-append u s, ← add-suc (length u) i, compare-add (length u) (suc i) (length s)) (when-moved keep (length u) (ltb i (length s) && p (getD s i 0)) (got (getD s i 0) (suc i)))
+one-after p u s i =
+    rw (getD-append-add u s i 0, length-append u s, ← add-suc (length u) i, compare-add (length u) (suc i) (length s)) (when-moved keep (length u) (ltb i (length s) && p
+    (getD s i 0)) (got (getD s i 0) (suc i)))
 
 -- one byte that passes a test and leads from side a to side c, and that no byte of v is
-module _ {Q : Tail} {u : List ℕ} {a c : Bool} (p : ℕ → Bool) (turn : (s v : List ℕ) (i : ℕ) → Behind Q v → At v a s i → i < length s → p (getD s i 0) ≡ true → At v c s (suc i))
-    (cut : (s v : List ℕ) (i : ℕ) → Behind Q v → At v a s i → one p (s ++ v) i ≡ one p s i) where
+module _ {Q : Tail} {u : List ℕ} {a c : Bool} (p : ℕ → Bool) (turn : (s v : List ℕ) (i : ℕ) → Follows Q v → At v a s i → i < length s → p (getD s i 0) ≡ true → At v c s (suc i))
+    (cut : (s v : List ℕ) (i : ℕ) → Follows Q v → At v a s i → one p (s ++ v) i ≡ one p s i) where
   pub one-turns : Local Q keep u a c 1 (one p) (one p)
   unfolding one
   one-turns =
       record {
         ends = λ s v i z w. when-ends _ (ltb i (length s) && p (getD s i 0)) (got (getD s i 0) (suc i)) (found s v i z w);
-        same = λ s v i z w. one-behind p u (s ++ v) i ∙ ap (moved keep (length u)) (cut s v i z w);
+        same = λ s v i z w. one-after p u (s ++ v) i ∙ ap (moved keep (length u)) (cut s v i z w);
         near = λ s i h. when-near _ (ltb i (length s) && p (getD s i 0)) (got (getD s i 0) (suc i)) tt;
       }
     where
-      found : (s v : List ℕ) (i : ℕ) → Behind Q v → At v a s i → (ltb i (length s) && p (getD s i 0)) ≡ true → Past 1 s i (suc i) × At v c s (suc i)
+      found : (s v : List ℕ) (i : ℕ) → Follows Q v → At v a s i → (ltb i (length s) && p (getD s i 0)) ≡ true → Past 1 s i (suc i) × At v c s (suc i)
       found s v i z w e =
           let b = and-eq-true-iff (ltb i (length s)) (p (getD s i 0)) .0 e in
           let h : i < length s = ltb-true i (length s) (b .0) in
@@ -280,7 +285,7 @@ unflip true false true e = sym e
 unflip true false false e = refl
 unflip false y z e = e
 
--- behind a byte, which flips sides or not
+-- after a byte, which flips sides or not
 pub next-at : {a c : Bool} {s : List ℕ} {i : ℕ} → Side a s i → i < length s → flips (getD s i 0) c ≡ a → Side c s (suc i)
 unfolding insideOf
 next-at {a} {c} {s} {i} w h e = record { fits = h; side = unflip (eqb (getD s i 0) 34) (insideOf (drop (suc i) s)) c (ap insideOf (sym (drop-cons s i 0 h)) ∙ w .side ∙ sym e) }
@@ -300,7 +305,7 @@ module _ {u : List ℕ} {a c : Bool} (p : ℕ → Bool) (turn : (x : ℕ) → p 
   unfolding one
   turn-local = one-turns p turns cut
     where
-      turns : (s v : List ℕ) (i : ℕ) → Behind Stop v → At v a s i → i < length s → p (getD s i 0) ≡ true → At v c s (suc i)
+      turns : (s v : List ℕ) (i : ℕ) → Follows Stop v → At v a s i → i < length s → p (getD s i 0) ≡ true → At v c s (suc i)
       turns s v i stop-end w h e = tt
       turns s v i (stop-at t) w h e = next-at w h (turn (getD s i 0) e)
 
@@ -308,7 +313,7 @@ module _ {u : List ℕ} {a c : Bool} (p : ℕ → Bool) (turn : (x : ℕ) → p 
       at s t i w (yes h) = rw (List·getD-append s (59 ∷ t) 0 i h, lt-ltb i (length s) h, lt-ltb i (length (s ++ 59 ∷ t)) (simp length-append (omega arith)))
       at s t i w (no h) = rw (getD-at s 59 t 0 i (omega (arith, w .fits)), quiet (end-outside w (omega arith)), and-false, le-ltb i (length s) (omega arith))
 
-      cut : (s v : List ℕ) (i : ℕ) → Behind Stop v → At v a s i → one p (s ++ v) i ≡ one p s i
+      cut : (s v : List ℕ) (i : ℕ) → Follows Stop v → At v a s i → one p (s ++ v) i ≡ one p s i
       cut s v i stop-end w = rw append-nil
       cut s v i (stop-at t) w = at s t i w (decLt i (length s))
 
@@ -341,6 +346,6 @@ module _ {u : List ℕ} {a : Bool} (p : ℕ → Bool) (e : p 59 ≡ p 0) where
       at (x ∷ s) t zero h = refl
       at (x ∷ s) t (suc i) h = at s t i (omega arith)
 
-      cut : (s v : List ℕ) (i : ℕ) → Behind Stop v → At v a s i → p (getD (s ++ v) i 0) ≡ p (getD s i 0)
+      cut : (s v : List ℕ) (i : ℕ) → Follows Stop v → At v a s i → p (getD (s ++ v) i 0) ≡ p (getD s i 0)
       cut s v i stop-end w = rw append-nil
       cut s v i (stop-at t) w = at s t i (w .fits)

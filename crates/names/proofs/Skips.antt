@@ -20,7 +20,7 @@ map-map f g s i j (got a t) = refl
 map-map f g s i j none = refl
 map-map f g s i j (refused k p) = refl
 
--- each item takes a byte of the text: an item and those behind it, or none
+-- each item takes a byte of the text: an item and those after it, or none
 module _ {A : Type 0} (m : Reader A) (takes : (s : List ℕ) (i : ℕ) → Ends (λ j. (i < j) × (j ≤ length s)) (m s i)) where
   pub many-is : (s : List ℕ) (i : ℕ) → many m s i ≡ branch m (λ a. map (λ l. a ∷ l) (many m)) (pure []) s i
   unfolding many
@@ -29,7 +29,8 @@ module _ {A : Type 0} (m : Reader A) (takes : (s : List ℕ) (i : ℕ) → Ends 
       more : Unit {0} → Reader (A × Unit {0})
       more x = map (λ a. (a, x)) m
 
-      item : (x : Unit {0}) (s : List ℕ) (i : ℕ) (r : Read A) → Ends (λ j. (i < j) × (j ≤ length s)) r → Ends {A = A × Unit {0}} (λ j. (i < j) × (j ≤ length s)) (follow s i r (λ a. pure (a, x)) nothing)
+      item : (x : Unit {0}) (s : List ℕ) (i : ℕ) (r : Read A) → Ends (λ j. (i < j) × (j ≤ length s)) r →
+          Ends {A = A × Unit {0}} (λ j. (i < j) × (j ≤ length s)) (follow s i r (λ a. pure (a, x)) nothing)
       item x s i (got a j) p = p
       item x s i none p = p
       item x s i (refused k q) p = p

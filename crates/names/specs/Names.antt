@@ -1,4 +1,4 @@
--- The names, and which of them stands at a place of a text.
+-- The names, and which of them stands at a place of a text (docs/RULES.md, 3).
 use Prim.Native.Nat.{ℕ, _+_}
 use Prim.Native.Char.{code}
 use mathlib.Core.List.{List, [], _∷_, _++_}

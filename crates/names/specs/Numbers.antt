@@ -1,4 +1,4 @@
--- Digits: year 4, N 1 to 5, n 1, MM 2, others 1 or 2.
+-- Digits: year 4, N 1 to 5, n 1, MM 2, others 1 or 2 (docs/RULES.md, 3).
 use Prim.Native.Nat.{ℕ, zero, suc, _+_, _-_, _*_}
 use Prim.Native.Char.{code}
 use mathlib.Core.Bool.{Bool}
@@ -22,7 +22,7 @@ digit = do
 abbrev pub enough : ℕ → ℕ → Reader ℕ
 enough wanted a s i = when (eqb wanted 0) (got a i)
 
--- up to n digits more behind the number a, as many as there are, of which so many are still wanted
+-- up to n digits more after the number a, as many as there are, of which so many are still wanted
 unfoldable pub upTo : ℕ → ℕ → ℕ → Reader ℕ
 upTo zero wanted a = enough wanted a
 upTo (suc n) wanted a = branch digit (λ d. upTo n (wanted - 1) (a * 10 + d)) (enough wanted a)
@@ -31,9 +31,9 @@ upTo (suc n) wanted a = branch digit (λ d. upTo n (wanted - 1) (a * 10 + d)) (e
 unfoldable pub digits : ℕ → ℕ → Reader ℕ
 digits least most = upTo most least 0
 
--- digits followed by `:` and a digit are a clock time: behind some of those digits, the others, `:` and a digit
-unfoldable pub clockBehind : Reader (Unit {0})
-clockBehind = do
+-- digits followed by `:` and a digit are a clock time: after some of those digits, the others, `:` and a digit
+unfoldable pub clockAfter : Reader (Unit {0})
+clockAfter = do
   skip isDigit
   sign ":"
   ahead isDigit
@@ -42,7 +42,7 @@ clockBehind = do
 unfoldable pub number : ℕ → ℕ → Reader ℕ
 number least most = do
   a ← digits least most
-  unless clockBehind
+  unless clockAfter
   pure a
 
 -- a year: 4 digits

@@ -24,7 +24,7 @@ follow s i (got a j) f n = f a s j
 follow s i none f n = n s i
 follow s i (refused k p) f n = refused k p
 
--- where m finds its shape, f goes on behind it, and nothing is undone; where it finds none, n reads
+-- where m finds its shape, f goes on after it, and nothing is undone; where it finds none, n reads
 abbrev pub branch : {A B : Type 0} → Reader A → (A → Reader B) → Reader B → Reader B
 branch m f n s i = follow s i (m s i) f n
 

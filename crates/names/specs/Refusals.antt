@@ -1,4 +1,4 @@
--- The refusal numbers: the rows of the rules' table.
+-- The refusal numbers: the rows of the rules' table (docs/RULES.md, 6).
 use Prim.Native.Nat.{ℕ}
 
 -- over 4,096 bytes

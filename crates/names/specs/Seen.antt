@@ -10,17 +10,17 @@ use Rattle.names.specs.declared.Num.the-variants as num
 use Rattle.names.specs.declared.Word.{Word}
 use Rattle.names.specs.declared.Word.the-variants as word
 
--- a place behind what was read
+-- a place after what was read
 abbrev pub seenStep : Step → Read (Unit {0})
 seenStep (step.Got c) = got tt (c .at)
 seenStep step.Missing = none
 
--- a number and the place behind it
+-- a number and the place after it
 abbrev pub seenNum : Num → Read ℕ
 seenNum (num.Got n c) = got n (c .at)
 seenNum num.Missing = none
 
--- a name's kind and which of its kind it is, and the place behind it
+-- a name's kind and which of its kind it is, and the place after it
 abbrev pub seenWord : Word → Read names.Word
 seenWord (word.Got kind value c) = got (kind, value) (c .at)
 seenWord word.Missing = none

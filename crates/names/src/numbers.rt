@@ -61,9 +61,9 @@ impl Cursor {
         enough(n, least, sum, at)
     }
 
-    // The rest of a clock time, behind some of its hour's digits: the others, `:` and a digit, which stays.
-    fn clock_behind(self, s: &[u8]) -> Step
-        ensures { λ r. ⌜ numbers.clockBehind (now (s .entry)) (self .at) ≡ seenStep r ⌝ }
+    // The rest of a clock time, after some of its hour's digits: the others, `:` and a digit, which stays.
+    fn clock_after(self, s: &[u8]) -> Step
+        ensures { λ r. ⌜ numbers.clockAfter (now (s .entry)) (self .at) ≡ seenStep r ⌝ }
     {
         let colon = self.skip(s, b'0', b'9').sign(s, b':');
         let Step::Got(c) = colon else {
@@ -85,7 +85,7 @@ impl Cursor {
         let Num::Got(a, c) = first else {
             return first;
         };
-        let clock = c.clock_behind(s);
+        let clock = c.clock_after(s);
         match clock {
             Step::Got(_) => Num::Missing,
             Step::Missing => Num::Got(a, c),

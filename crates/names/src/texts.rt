@@ -34,7 +34,7 @@ impl Cursor {
         }
     }
 
-    // The place behind bytes from lo to hi, as many as there are.
+    // The place after bytes from lo to hi, as many as there are.
     pub fn skip(self, s: &[u8], lo: u8, hi: u8) -> Cursor
         ensures { λ r. ⌜ chain.skip (within lo hi) (now (s .entry)) (self .at) ≡ got tt (r .at) ⌝ }
     {
@@ -53,7 +53,7 @@ impl Cursor {
         Cursor { at }
     }
 
-    // The place behind bytes 32, or none.
+    // The place after bytes 32, or none.
     pub fn blanks(self, s: &[u8]) -> Cursor
         ensures { λ r. ⌜ texts.blanks (now (s .entry)) (self .at) ≡ got tt (r .at) ⌝ }
     {

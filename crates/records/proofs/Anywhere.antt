@@ -18,9 +18,9 @@ pub meant-is : {R : Type 0} (p : ℕ) (shape : Reader R) (meaning : R → Meant)
     shape s i ≡ got r j → x ≡ meaning r → judged p x [] j ≡ y → meant p shape meaning s i ≡ y
 meant-is p shape meaning {s} {j = j} {x} h q e = rw (h, ← q, judged-in p x s [] j) e
 
--- an item, behind its first part
-pub item-behind : {A R : Type 0} (m : Reader A) (f : A → Reader R) (meaning : R → Meant) {s : List ℕ} {i : ℕ} {a : A} {j : ℕ} → m s i ≡ got a j → item (m >>= f) meaning s i ≡ meant i (f a) meaning s j
-item-behind {R = R} m f meaning {s} {i} {a} {j} h = rw h (go (f a s j))
+-- an item, after its first part
+pub item-after : {A R : Type 0} (m : Reader A) (f : A → Reader R) (meaning : R → Meant) {s : List ℕ} {i : ℕ} {a : A} {j : ℕ} → m s i ≡ got a j → item (m >>= f) meaning s i ≡ meant i (f a) meaning s j
+item-after {R = R} m f meaning {s} {i} {a} {j} h = rw h (go (f a s j))
   where
     go : (x : Read R) → follow s i x (λ r. judged i (meaning r)) nothing ≡ follow s j x (λ r. judged i (meaning r)) nothing
     go (got r t) = refl

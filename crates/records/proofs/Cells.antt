@@ -65,7 +65,7 @@ item-sixteen a = filled-up (itemWords a) (item-words a)
 
 -- ---- the cells of records in a table
 
--- two runs of stores, one behind the other
+-- two runs of stores, one after the other
 sets-append : {A : Type 0} (x y t : List A) (b : ℕ) → sets t b (x ++ y) ≡ sets (sets t b x) (b + length x) y
 sets-append [] y t b = ap (λ (n : ℕ). sets t n y) (omega arith)
 sets-append (a ∷ x) y t b = let e : suc b + length x ≡ b + suc (length x) = omega arith in sets-append x y (set t b a) (suc b) ∙ ap (λ (n : ℕ). sets (sets t b (a ∷ x)) n y) e
@@ -116,7 +116,7 @@ records-back rs t h room = rw (front-split asWords words-wide rs t h room) (reco
 pub out-begin : (n : ℕ) (from : List ℤ) (t : Tables) → allKept t 0 (recordsIn n from) ≡ allKept t 0 (recordsIn (n - 0) (drop (0 * 16) from))
 out-begin n from t = let a : n - 0 ≡ n = omega arith in rw a
 
--- so many are left behind the first i
+-- so many are left after the first i
 module _ (n i : ℕ) (from : List ℤ) (t : Tables) where
   pub out-more : i < n → allKept t i (recordsIn (n - i) (drop (i * 16) from)) ≡ allKept (keptIn t i (take 16 (drop (i * 16) from))) (i + 1) (recordsIn (n - (i + 1)) (drop ((i + 1) * 16) from))
   unfolding allKept recordsIn

@@ -11,7 +11,7 @@ use Rattle.records.specs.declared.Item.{Item}
 use Rattle.records.specs.declared.Meant.{Meant}
 use Rattle.records.specs.declared.Meant.the-variants.{Is, Refused}
 
--- reads alike where its text stands behind u, and takes k bytes at least
+-- reads alike where its text stands after u, and takes k bytes at least
 abbrev pub Alike : {A : Type 0} → List ℕ → ℕ → Reader A → Type 0
 Alike u k m = Local Stop keep u false false k m m
 

@@ -88,7 +88,7 @@ in-apart t i j a b h e = rw (kept-apart asWords words-wide (t .0) i j a b h e, k
 
 -- ---- many
 
--- records behind records
+-- records after records
 pub all-append : (a b : List (List ℤ)) (t : Tables) (k : ℕ) → allKept t k (a ++ b) ≡ allKept (allKept t k a) (k + length a) b
 unfolding allKept
 all-append [] b t k = ap (λ (n : ℕ). allKept t n b) (omega arith)

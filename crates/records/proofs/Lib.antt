@@ -1,5 +1,5 @@
 pub mod Laws
-pub mod Apart
+pub mod OneAnswer
 pub mod Cut
 pub mod Anywhere
 pub mod Stores

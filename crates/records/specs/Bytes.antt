@@ -1,4 +1,4 @@
--- Record words as bytes: 64 to a record, each word little-endian.
+-- Record words as bytes: 64 to a record, each word little-endian (docs/RULES.md, 5).
 use Prim.Native.Nat.{ℕ, _/_, _%_}
 use mathlib.Core.List.{List, [], _∷_, _++_}
 use lib.IntN.{ℤ}

@@ -1,4 +1,4 @@
--- An item: its longest shape is read, and then judged.
+-- An item: its longest shape is read, and then judged (docs/RULES.md, 3).
 use Prim.Native.Nat.{ℕ}
 use mathlib.Core.Bool.{Bool}
 use lib.Dec.{leb}
@@ -31,4 +31,4 @@ goodCount n = leb n 32767
 
 -- a number that is added, or taken off
 abbrev pub signed : Bool → ℕ → Signed
-signed less n = record { less = less; n = n }
+signed negative n = record { negative = negative; n = n }

@@ -1,4 +1,4 @@
--- Records in tables, of words and of bytes.
+-- Records in tables, of words and of bytes (docs/RULES.md, 5).
 use Prim.Native.Nat.{ℕ, zero, suc, _+_, _*_}
 use mathlib.Core.List.{List, [], _∷_}
 use lib.Dec.{ltb}

@@ -1,4 +1,4 @@
--- Record words: 16 to a record, unused words are 0. The last is a place in the sheet: the item's, a head's rule's.
+-- Record words: 16 to a record, unused words are 0. The last is a place in the sheet: the item's, a head's rule's (docs/RULES.md, 5).
 use Prim.Native.Nat.{ℕ, _-_}
 use mathlib.Core.List.{List, [], _∷_, _++_}
 use mathlib.Core.Bool.{Bool, true, false}
@@ -23,7 +23,7 @@ record16 ws = ws ++ replicate (16 - length ws) (pos 0)
 
 -- a number that is added, or taken off
 abbrev pub wordOf : Signed → ℤ
-wordOf x = if x.less then negℤ (pos x.n) else pos x.n
+wordOf x = if x.negative then negℤ (pos x.n) else pos x.n
 
 -- form, year or 0, month, day or weekday, n signed
 abbrev pub dayWords : ℕ → Day → List ℤ
@@ -57,11 +57,11 @@ bit true = pos 1
 abbrev pub itemWords : Item → List ℤ
 itemWords (Years r) = pos 2 ∷ pos r.first ∷ pos r.last ∷ pos r.step ∷ []
 itemWords (Months r) = pos 3 ∷ pos r.year ∷ pos r.first ∷ pos r.last ∷ []
-itemWords (Dates r) = pos 4 ∷ dateWords r.start r.before ++ dateWords r.end r.behind
+itemWords (Dates r) = pos 4 ∷ dateWords r.start r.«start_offset» ++ dateWords r.end r.«end_offset»
 itemWords (Weeks r) = pos 5 ∷ pos r.first ∷ pos r.last ∷ pos r.step ∷ []
 itemWords (Weekdays r) = pos 6 ∷ pos r.first ∷ pos r.last ∷ wordOf r.days ∷ pos r.starts ∷ pos r.ends ∷ []
 itemWords (Holidays r) = pos 7 ∷ pos r.kind ∷ wordOf r.days ∷ []
-itemWords (Times r) = pos 8 ∷ timeWords r.start ++ timeWords r.end ++ (repeatWord r.repeats ∷ bit r.plus ∷ bit r.point ∷ [])
+itemWords (Times r) = pos 8 ∷ timeWords r.start ++ timeWords r.end ++ (repeatWord r.repeats ∷ bit r.«open_end» ∷ bit r.point ∷ [])
 
 -- the 16 words of an item
 unfoldable pub wordsOf : Item → List ℤ

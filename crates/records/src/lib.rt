@@ -1,19 +1,19 @@
 // What an item of a rule is, and the words of its record.
 mod bytes;
-mod judge;
+mod items;
 mod slots;
 mod tables;
 mod words;
 
 pub use bytes::put_word;
-pub use judge::judged;
+pub use items::judged;
 use names::Cursor;
 pub use tables::keep;
 pub use words::words_of;
 
 // A number that is added, or taken off.
 pub struct Signed {
-    pub less: bool,
+    pub negative: bool,
     pub n: u16,
 }
 
@@ -60,9 +60,9 @@ pub struct DateOffset {
 // Dates from one to another.
 pub struct DateSpan {
     pub start: Date,
-    pub before: DateOffset,
+    pub start_offset: DateOffset,
     pub end: Date,
-    pub behind: DateOffset,
+    pub end_offset: DateOffset,
 }
 
 // Weekdays from first to last, a number of days later, and their flags from the month's start and from its end.
@@ -100,7 +100,7 @@ pub struct Span {
     pub start: Time,
     pub end: Time,
     pub repeats: Repeat,
-    pub plus: bool,
+    pub open_end: bool,
     pub point: bool,
 }
 

@@ -34,7 +34,7 @@ fn word_of(x: Signed) -> i32
     ensures { λ r. ⌜ r ≡ w.wordOf x ⌝ }
 {
     let n = x.n as i32;
-    if x.less { -n } else { n }
+    if x.negative { -n } else { n }
 }
 
 // The words of a date without its offset.
@@ -113,7 +113,7 @@ fn bit(b: bool) -> i32
     if b { 1 } else { 0 }
 }
 
-// A record with three numbers behind its kind.
+// A record with three numbers after its kind.
 fn three(kind: i32, a: u16, b: u16, c: u16) -> [i32; 16]
     ensures { λ r. ⌜ r ≡ w.record16 (kind ∷ pos a ∷ pos b ∷ pos c ∷ []) ⌝ }
 {
@@ -143,8 +143,8 @@ fn dates_words(r: DateSpan) -> [i32; 16]
 {
     let start = r.start;
     let end = r.end;
-    let o = r.before;
-    let p = r.behind;
+    let o = r.start_offset;
+    let p = r.end_offset;
     let owday = o.wday;
     let odays = o.days;
     let pwday = p.wday;
@@ -237,7 +237,7 @@ fn span_words(r: Span) -> [i32; 16]
         b.kind,
         b.minutes,
         repeat_word(repeats),
-        bit(r.plus),
+        bit(r.open_end),
         bit(r.point),
         0,
         0,

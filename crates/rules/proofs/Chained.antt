@@ -11,12 +11,12 @@ use Rattle.names.proofs.Fuel.{chain-is}
 use Rattle.names.proofs.Skips.{map-map}
 use Rattle.names.specs.declared.Manner.{Manner}
 use Rattle.items.specs.Musts.{missing}
-use Rattle.items.specs.Kinds.{apart, Placed}
+use Rattle.items.specs.Kinds.{afterBlank, Placed}
 use Rattle.items.proofs.Sure.{Sure, sure, then-sure, or-sure, missing-sure, chain-sure}
 use Rattle.rules.specs.Comments.{noComment}
 use Rattle.rules.specs.Modifiers.{modifier}
 use Rattle.rules.specs.Pieces.{empty, more, plainEnd, end, piece}
-use Rattle.rules.specs.Rules.{openingOf, always, wideComment, opening, ruleOf, behind, rule}
+use Rattle.rules.specs.Rules.{openingOf, always, wideComment, opening, ruleOf, afterOpening, rule}
 use Rattle.rules.specs.declared.Opening.{Opening}
 use Rattle.rules.specs.declared.Tail.{Tail}
 use Rattle.rules.specs.declared.Stage.{Stage}
@@ -108,17 +108,18 @@ module _ (m : Manner) (x : Stage) (s : List ℕ) (i : ℕ) where
 ended : (s : List ℕ) (i : ℕ) (x : Stage) → Sure (end x s i)
 unfolding end plainEnd
 ended s i Beginning = or-sure s i (modifier s i) (plainEnd Beginning) (or-sure s i (empty s i) missing (missing-sure Tail s i))
-ended s i Always = or-sure s i (apart modifier s i) (plainEnd Always) tt
-ended s i Colon = or-sure s i (apart modifier s i) (plainEnd Colon) tt
-ended s i (After k) = or-sure s i (apart modifier s i) (plainEnd (After k)) tt
+ended s i Always = or-sure s i (afterBlank modifier s i) (plainEnd Always) tt
+ended s i Colon = or-sure s i (afterBlank modifier s i) (plainEnd Colon) tt
+ended s i (After k) = or-sure s i (afterBlank modifier s i) (plainEnd (After k)) tt
 
 pub end-sure : (x : Stage) (s : List ℕ) (i : ℕ) → end x s i ≡ none → ⊥
 end-sure x s i = sure (ended s i x)
 
 -- and is read or refused
 pub rule-sure : (m : Manner) (separator : ℕ) (s : List ℕ) (i : ℕ) → Sure (rule m separator s i)
-unfolding rule opening behind
+unfolding rule opening afterOpening
 rule-sure m separator s i =
     let plain : Reader Opening = pure (openingOf Beginning noComment) in
-    then-sure s i (behind m i separator) (opening s i) (or-sure s i (always s i) (branch wideComment pure plain) (or-sure s i (wideComment s i) plain tt)) (λ o j.
-    then-sure s j (λ r. pure (ruleOf i separator (o .comment) r)) (chain (more m) end (o .stage) s j) (chain-sure (more m) end s (λ x. takes (more-local {u = []} m x) s) (λ x k _. ended s k x) (o .stage) j) (λ _ _. tt))
+    then-sure s i (afterOpening m i separator) (opening s i) (or-sure s i (always s i) (branch wideComment pure plain) (or-sure s i (wideComment s i) plain tt)) (λ o j.
+    then-sure s j (λ r. pure (ruleOf i separator (o .comment) r)) (chain (more m) end (o .stage) s j) (chain-sure (more m) end s (λ x. takes (more-local {u = []} m x) s)
+    (λ x k _. ended s k x) (o .stage) j) (λ _ _. tt))

@@ -17,13 +17,15 @@ use Rattle.names.specs.Chain.{skip, chain}
 use Rattle.names.specs.Texts.{byte, bytes}
 use Rattle.names.specs.Refusals.{emptyRule, illFormedComment}
 use Rattle.names.specs.Names as names
-use Rattle.names.proofs.Local.{Tail as Tails, Behind, stop-end, stop-at, Side, At, compare-add, look-local, Ended, Stop, moved, keep, LocalFrom, Local, past-one, narrow, loose, free, by, nothing-local, pure-local, refuse-local, here-local, here-then, branch-moved, bind-local, then-local, then-moved, map-local, or-local, maybe-local, inner-local, quote-local, ahead-local, only-local}
+use Rattle.names.proofs.Local.{Tail as Tails, Follows, stop-end, stop-at, Side, At, compare-add, look-local, Ended, Stop, moved, keep, LocalFrom, Local, past-one, narrow, loose}
+use Rattle.names.proofs.Local.{free, by, nothing-local, pure-local, refuse-local, here-local, here-then, branch-moved, bind-local, then-local, then-moved, map-local, or-local}
+use Rattle.names.proofs.Local.{maybe-local, inner-local, quote-local, ahead-local, only-local}
 use Rattle.names.proofs.Ended.{byte-ended, atEnd-ended}
 use Rattle.names.proofs.Chains.{step-moves, chain-moves, chain-local, chain-takes, many-local}
 use Rattle.names.proofs.Cut.{byte-local, blanks-local, blank-local, comma-local}
 use Rattle.names.proofs.NameCut.{plain, allOf-local, name-local}
 use Rattle.names.specs.declared.Manner.{Manner}
-use Rattle.items.specs.Kinds.{apart, Placed}
+use Rattle.items.specs.Kinds.{afterBlank, Placed}
 use Rattle.items.specs.declared.Kind.{Kind}
 use Rattle.items.proofs.Cut.{missing-local, must-local, placedMoves, itemIn-local}
 use Rattle.utf8.specs.Letters.{isInner, letters}
@@ -32,7 +34,7 @@ use Rattle.rules.specs.Comments.{commentOf, noComment, closed, illFormed
 use Rattle.rules.specs.Modifiers.{tailOf, withComment, modifier}
 use Rattle.rules.specs.Rows.{small, first, listed, following, isWide}
 use Rattle.rules.specs.Pieces.{empty, itemFrom, goesOn, afterColon, colonSign, colon, more, plainEnd, end}
-use Rattle.rules.specs.Rules.{openingOf, always, wideComment, opening, wins, Rule, ruleOf, behind, rule}
+use Rattle.rules.specs.Rules.{openingOf, always, wideComment, opening, wins, Rule, ruleOf, afterOpening, rule}
 use Rattle.rules.specs.Separators.{commaBlank, bars, separator, next, stop, ruleEnd}
 use Rattle.rules.specs.declared.Comment.{Comment}
 use Rattle.rules.specs.declared.Opening.{Opening}
@@ -146,7 +148,8 @@ unfolding closed
 closed-local {u} start =
     let f : ℕ → ℕ → Reader Comment = λ start end. branch (byte 34) (λ _. branch (only (ltb start end)) (λ _. pure (commentOf start (end - start))) nothing) nothing in
     loose (branch-moved {k = 0} {l = 1} (f (length u + start)) (f start) here-local (λ end.
-    rw (same-order (length u) start end, same-length (length u) start end) (then-local (quote-local true) (λ _. then-local (only-local (ltb start end)) (λ _. pure-local (commentOf start (end - start)))))) nothing-local) (omega arith)
+    rw (same-order (length u) start end, same-length (length u) start end) (then-local (quote-local true) (λ _. then-local (only-local (ltb start end)) (λ _. pure-local
+    (commentOf start (end - start)))))) nothing-local) (omega arith)
 
 illFormed-local : {u : List ℕ} (p : ℕ) → LocalFrom p Stop shifted u true false 1 (illFormed (length u + p)) (illFormed p)
 unfolding illFormed isInner
@@ -157,7 +160,8 @@ unfolding comment
 comment-shifted {u} =
     let g : ℕ → ℕ → Reader Comment = λ p start. branch letters (λ _. branch (closed start) pure (illFormed p)) nothing in
     let f : ℕ → Reader Comment = λ p. branch (byte 34) (λ _. branch here (g p) nothing) nothing in
-    here-then f f (λ p. then-local (quote-local false) (λ _. then-moved (g (length u + p)) (g p) here-local (λ start. then-local letters-local (λ _. free (or-local (closed-local start) (illFormed-local p))))))
+    here-then f f (λ p. then-local (quote-local false) (λ _. then-moved (g (length u + p)) (g p) here-local (λ start. then-local letters-local (λ _. free (or-local
+    (closed-local start) (illFormed-local p))))))
 
 pub comment-local : {u : List ℕ} → Local Stop commentMoves u false false 1 comment comment
 comment-local {u} = by-found comment-shifted (λ s i. comment-has _ s (λ start end h _. rw (start-moves (length u) (end - start) start (omega arith))) i)
@@ -177,7 +181,7 @@ unfolding modifier
 modifier-local = or-local (then-local (name-local names.modifier) withComment-local) (map-local (tailOf 0) (tailOf 0) (λ c. refl) comment-local)
 
 -- a modifier after a blank, or none
-selected-local : {u : List ℕ} → Local Stop tailMoves u false false 0 (branch (apart modifier) pure (pure (tailOf 0 noComment))) (branch (apart modifier) pure (pure (tailOf 0 noComment)))
+selected-local : {u : List ℕ} → Local Stop tailMoves u false false 0 (branch (afterBlank modifier) pure (pure (tailOf 0 noComment))) (branch (afterBlank modifier) pure (pure (tailOf 0 noComment)))
 selected-local = maybe-local (bind-local blank-local (λ _. modifier-local)) (tailOf 0 noComment)
 
 -- ---- openings
@@ -220,11 +224,12 @@ stop-local {u} = look-local (λ s i. eqb i (length s) || eqb 59 (getD s i 0)) (�
         or-true true = refl
         or-true false = refl
 
-    cut : (s v : List ℕ) (i : ℕ) → Behind Stop v → At v false s i → (eqb i (length (s ++ v)) || eqb 59 (getD (s ++ v) i 0)) ≡ (eqb i (length s) || eqb 59 (getD s i 0))
+    cut : (s v : List ℕ) (i : ℕ) → Follows Stop v → At v false s i → (eqb i (length (s ++ v)) || eqb 59 (getD (s ++ v) i 0)) ≡ (eqb i (length s) || eqb 59 (getD s i 0))
     cut s v i stop-end w = rw append-nil
     cut s v i (stop-at t) w = at s t i w (decLt i (length s))
 
-    alike : (s v : List ℕ) (i : ℕ) → Behind Stop v → At v false s i → (eqb (length u + i) (length (u ++ (s ++ v))) || eqb 59 (getD (u ++ (s ++ v)) (length u + i) 0)) ≡ (eqb i (length s) || eqb 59 (getD s i 0))
+    alike : (s v : List ℕ) (i : ℕ) → Follows Stop v → At v false s i →
+        (eqb (length u + i) (length (u ++ (s ++ v))) || eqb 59 (getD (u ++ (s ++ v)) (length u + i) 0)) ≡ (eqb i (length s) || eqb 59 (getD s i 0))
     alike s v i z w = rw (getD-append-add u (s ++ v) i 0, length-append u (s ++ v), compare-add (length u) i (length (s ++ v))) (cut s v i z w)
 
 pub empty-local : {u : List ℕ} {k : ℕ} {sh : ℕ → Tail → Tail} → Local Stop sh u false false k empty empty
@@ -297,7 +302,11 @@ wins-moves n c wide = go (eqb c.length 0)
 rule-moves : (n place separator : ℕ) (wide : Comment) (r : List Placed × Tail) → ruleOf (n + place) separator (commentMoves n wide) (piecesMoves n r) ≡ ruleMoves n (ruleOf place separator wide r)
 rule-moves n place separator wide r =
     rw (length-map (r .0) (placedMoves n))
-    (ap (λ (c : Comment). (record { place = n + place; separator = separator; state = r .1 .state; comment = c; items = length (r .0) }, list.map (placedMoves n) (r .0))) (wins-moves n (r .1 .comment) wide))
+    (ap (λ (c : Comment). (
+      record { place = n + place; separator = separator; state = r .1 .state; comment = c; items = length (r .0) },
+      list.map (placedMoves n)
+          (r .0),
+    )) (wins-moves n (r .1 .comment) wide))
 
 -- one reader or another, and what follows: read as the first and what follows, or the second and what follows
 or-then : {A B : Type 0} (m n : Reader A) (f : A → Reader B) (s : List ℕ) (i : ℕ) → branch (branch m pure n) f nothing s i ≡ branch m f (branch n f nothing) s i
@@ -321,34 +330,35 @@ or-then-moved {Q = Q} {sh₂ = sh₂} {u} {a} {c = c} {k} {m′} {m} n′ n f′
     }
 
 module _ {u : List ℕ} (m : Manner) (separator : ℕ) where
-  -- what is behind an opening takes the bytes that its pieces and its end do
-  behind-takes : {k : ℕ} (place : ℕ) (o : Opening) → Local Stop piecesMoves u false false k (chain (more m) end o.stage) (chain (more m) end o.stage) →
-      Local Stop ruleMoves u false false k (behind m (length u + place) separator (openingMoves (length u) o)) (behind m place separator o)
-  unfolding behind
-  behind-takes place o M = map-local (ruleOf (length u + place) separator (commentMoves (length u) o.comment)) (ruleOf place separator o.comment) (rule-moves (length u) place separator o.comment) M
+  -- what is after an opening takes the bytes that its pieces and its end do
+  afterOpening-takes : {k : ℕ} (place : ℕ) (o : Opening) → Local Stop piecesMoves u false false k (chain (more m) end o.stage) (chain (more m) end o.stage) →
+      Local Stop ruleMoves u false false k (afterOpening m (length u + place) separator (openingMoves (length u) o)) (afterOpening m place separator o)
+  unfolding afterOpening
+  afterOpening-takes place o M =
+      map-local (ruleOf (length u + place) separator (commentMoves (length u) o.comment)) (ruleOf place separator o.comment) (rule-moves (length u) place separator o.comment) M
 
-  pub behind-local : (place : ℕ) (o : Opening) → Local Stop ruleMoves u false false 0 (behind m (length u + place) separator (openingMoves (length u) o)) (behind m place separator o)
-  behind-local place o = behind-takes place o (pieces-local m o.stage)
+  pub afterOpening-local : (place : ℕ) (o : Opening) → Local Stop ruleMoves u false false 0 (afterOpening m (length u + place) separator (openingMoves (length u) o)) (afterOpening m place separator o)
+  afterOpening-local place o = afterOpening-takes place o (pieces-local m o.stage)
 
-  -- a rule takes a byte: its opening does, or what is behind none
-  opened-local : (place : ℕ) → Local Stop ruleMoves u false false 1 (branch opening (behind m (length u + place) separator) nothing) (branch opening (behind m place separator) nothing)
+  -- a rule takes a byte: its opening does, or what is after none
+  opened-local : (place : ℕ) → Local Stop ruleMoves u false false 1 (branch opening (afterOpening m (length u + place) separator) nothing) (branch opening (afterOpening m place separator) nothing)
   unfolding opening
   opened-local place =
-      let f : ℕ → Opening → Reader Rule = λ p. behind m p separator in
+      let f : ℕ → Opening → Reader Rule = λ p. afterOpening m p separator in
       let o : Opening = openingOf Beginning noComment in
       let n : Reader Opening = branch wideComment pure (pure o) in
-      or-then-moved n n (f (length u + place)) (f place) (loose always-local (omega arith)) (behind-local place)
-      (or-then-moved (pure o) (pure o) (f (length u + place)) (f place) (loose wideComment-local (omega arith)) (behind-local place) (behind-takes place o (beginning-local m)))
+      or-then-moved n n (f (length u + place)) (f place) (loose always-local (omega arith)) (afterOpening-local place)
+      (or-then-moved (pure o) (pure o) (f (length u + place)) (f place) (loose wideComment-local (omega arith)) (afterOpening-local place) (afterOpening-takes place o (beginning-local m)))
 
   pub rule-local : Local Stop ruleMoves u false false 1 (rule m separator) (rule m separator)
   unfolding rule
   rule-local =
-      let f : ℕ → Reader Rule = λ p. branch opening (behind m p separator) nothing in
+      let f : ℕ → Reader Rule = λ p. branch opening (afterOpening m p separator) nothing in
       loose (branch-moved f f here-local opened-local nothing-local) (omega arith)
 
 -- ---- what parts rules
 
--- what parts rules begins with `;` itself, or is the text's end: nothing stands behind
+-- what parts rules begins with `;` itself, or is the text's end: nothing stands after
 pub separator-ended : {u : List ℕ} → Local Ended keep u false false 1 separator separator
 unfolding separator
 separator-ended =

@@ -104,7 +104,8 @@ module _ (s : List ℕ) (i start e k : ℕ) (l : letters s start ≡ got tt e) (
   unfolding illFormed
   good-judged h q = rw (skip-first isInner s start k f h, skip-others isInner s start k f h, q) (go (quote-or-not s k))
     where
-      go : (byte 34 s k ≡ got tt (k + 1)) ⊎ (byte 34 s k ≡ none) → Judges s i (follow s k (byte 34 s k) (λ _. pure (commentOf start (k - start))) nothing) (branch (closed start) pure (illFormed i) s k)
+      go : (byte 34 s k ≡ got tt (k + 1)) ⊎ (byte 34 s k ≡ none) →
+          Judges s i (follow s k (byte 34 s k) (λ _. pure (commentOf start (k - start))) nothing) (branch (closed start) pure (illFormed i) s k)
       go (inl c) =
           let w : WellFormed (slice start (start + (k - start)) s) = rw (add-sub start k (omega arith)) (letters-are-well-formed s start k f .0 (l ∙ ap (λ (n : ℕ). got tt n) q)) in
           rw c (judges-got s i (commentOf start (k - start)) (k + 1) (λ _. rw (closed-got s k start h c)) (λ n. absurd (n w)))
@@ -117,7 +118,8 @@ module _ (s : List ℕ) (i start e k : ℕ) (l : letters s start ≡ got tt e) (
       let o = skip-first isInner s e k later p in
       rw (skip-first isInner s start k f h, skip-others isInner s start k f h, closed-none s e start (inner-quote s e o), o, skip-others isInner s e k later p) (go (quote-or-not s k))
     where
-      go : (byte 34 s k ≡ got tt (k + 1)) ⊎ (byte 34 s k ≡ none) → Judges s i (follow s k (byte 34 s k) (λ _. pure (commentOf start (k - start))) nothing) (follow s k (byte 34 s k) (λ _. refuse illFormedComment i) nothing)
+      go : (byte 34 s k ≡ got tt (k + 1)) ⊎ (byte 34 s k ≡ none) →
+          Judges s i (follow s k (byte 34 s k) (λ _. pure (commentOf start (k - start))) nothing) (follow s k (byte 34 s k) (λ _. refuse illFormedComment i) nothing)
       go (inl c) =
           rw c (judges-got s i (commentOf start (k - start)) (k + 1) (λ w.
           let z : e ≡ k = same-place (sym (letters-are-well-formed s start k f .1 (rw (add-sub start k (omega arith)) at w)) ∙ l) in absurd (omega arith)) (λ _. refl))

@@ -44,9 +44,9 @@ eqb-swap a b = go (eqb a b) refl
     go true e = e ∙ sym (eq-eqb b a (sym (eqb-true a b e)))
     go false e = e ∙ sym (ne-eqb b a (λ q. eqb-false a b e (sym q)))
 
--- ---- bytes that pass a test are skipped from i to j: the first of them, and those behind it
+-- ---- bytes that pass a test are skipped from i to j: the first of them, and those after it
 
--- where nothing stands behind a text, they are read alike behind another
+-- where nothing stands after a text, they are read alike after another
 pub skip-ended : {u : List ℕ} {a : Bool} (p : ℕ → Bool) → Local Ended keep u a a 0 (skip p) (skip p)
 unfolding skip
 skip-ended p = map-local _ _ (λ x. refl) (many-local (one-ended p))
@@ -73,7 +73,7 @@ module _ (p : ℕ → Bool) (s : List ℕ) (i j : ℕ) (e : skip p s i ≡ got t
       go (yes h) false t = stood (one-other p s i h t) (same-place (sym (skip-stop p s i h t) ∙ e))
       go (no h) u t = stood (one-past p s i (omega arith)) (same-place (sym (skip-end p s i (omega arith)) ∙ e))
 
-  -- the place moved: there is a first, and from behind it the others
+  -- the place moved: there is a first, and from after it the others
   pub skip-first : i < j → one p s i ≡ got (getD s i 0) (i + 1)
   skip-first h = go skipped
     where
@@ -103,7 +103,8 @@ module _ (x : ℕ) (s : List ℕ) (i : ℕ) where
   unfolding allOf byte one
   all-first xs = rw (eqb-swap (getD s i 0) x) (go (ltb i (length s) && eqb x (getD s i 0)))
     where
-      go : (t : Bool) → follow s i (when t (got (getD s i 0) (suc i))) (λ _. allOf (λ b. b) xs) nothing ≡ follow s i (follow s i (when t (got (getD s i 0) (suc i))) (λ _. pure (tt {0})) nothing) (λ _. allOf (λ b. b) xs) nothing
+      go : (t : Bool) → follow s i (when t (got (getD s i 0) (suc i))) (λ _. allOf (λ b. b) xs) nothing ≡ follow s i (follow s i (when t (got (getD s i 0) (suc i)))
+          (λ _. pure (tt {0})) nothing) (λ _. allOf (λ b. b) xs) nothing
       go true = refl
       go false = refl
 

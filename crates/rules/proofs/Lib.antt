@@ -1,6 +1,6 @@
 pub mod Laws
 pub mod Cut
-pub mod Apart
+pub mod OneAnswer
 pub mod Chained
 pub mod Turns
 pub mod Small

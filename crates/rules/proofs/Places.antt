@@ -11,12 +11,12 @@ use Rattle.names.proofs.Local.{past, past-one}
 use Rattle.names.proofs.Upto.{Upto, upto-then, upto-or, upto-map, upto-less}
 use Rattle.names.proofs.Cut.{comma-local}
 use Rattle.names.specs.declared.Manner.{Manner}
-use Rattle.items.specs.Kinds.{apart, Placed, itemIn}
+use Rattle.items.specs.Kinds.{afterBlank, Placed, itemIn}
 use Rattle.items.specs.declared.Kind.{Kind}
-use Rattle.items.proofs.Places.{Inside, inside-from, must-upto, apart-upto, itemIn-inside}
+use Rattle.items.proofs.Places.{Inside, inside-from, must-upto, afterBlank-upto, itemIn-inside}
 use Rattle.rules.specs.Rows.{small, first, listed, following}
 use Rattle.rules.specs.Pieces.{itemFrom, goesOn, afterColon, colonSign, colon, more, end}
-use Rattle.rules.specs.Rules.{opening, Rule, ruleOf, behind, rule}
+use Rattle.rules.specs.Rules.{opening, Rule, ruleOf, afterOpening, rule}
 use Rattle.rules.specs.Places.{Rising, PlacesRise}
 use Rattle.rules.specs.declared.Stage.{Stage}
 use Rattle.rules.specs.declared.Stage.the-variants.{Beginning, Always, Colon, After}
@@ -33,11 +33,11 @@ module _ (m : Manner) (s : List ℕ) where
       upto-map (Next i) s j (λ a. (a .0, After (a .1))) (itemIn m ks s j)
       (upto-less (λ x k. Inside j (x .0) k) (λ x k. Inside i (x .0) k) (λ x k. inside-from (x .0) k h) (itemIn m ks s j) (itemIn-inside s m ks j))
 
-  apart-inside : (ks : List Kind) (i j : ℕ) → i ≤ j → Upto (Next i) (apart (itemFrom m ks) s j)
-  apart-inside ks i j h = apart-upto s (Next i) j (itemFrom m ks) (λ k l. item-inside ks i k (omega arith))
+  afterBlank-inside : (ks : List Kind) (i j : ℕ) → i ≤ j → Upto (Next i) (afterBlank (itemFrom m ks) s j)
+  afterBlank-inside ks i j h = afterBlank-upto s (Next i) j (itemFrom m ks) (λ k l. item-inside ks i k (omega arith))
 
   colon-inside : (i j : ℕ) → i ≤ j → Upto (Next i) (afterColon m s j)
-  colon-inside i j h = must-upto s (Next i) j (apart (itemFrom m small)) (apart-inside small i j h)
+  colon-inside i j h = must-upto s (Next i) j (afterBlank (itemFrom m small)) (afterBlank-inside small i j h)
 
   -- the item of a piece
   pub more-inside : (x : Stage) (i : ℕ) → Upto (Next i) (more m x s i)
@@ -46,8 +46,10 @@ module _ (m : Manner) (s : List ℕ) where
   more-inside Always i = tt
   more-inside Colon i = colon-inside i i (omega arith)
   more-inside (After k) i =
-      upto-or (Next i) s i (goesOn m k s i) _ (upto-then (Next i) s i _ (comma s i) (λ _ j e. must-upto s (Next i) j (itemFrom m (listed k)) (item-inside (listed k) i j (omega (arith, past-one comma-local e .0)))))
-      (upto-or (Next i) s i (colon m k s i) _ (upto-then (Next i) s i _ (colonSign k s i) (λ _ j e. colon-inside i j (omega (arith, past-one (colonSign-local k) e .0)))) (apart-inside (following k) i i (omega arith)))
+      upto-or (Next i) s i (goesOn m k s i) _ (upto-then (Next i) s i _ (comma s i) (λ _ j e. must-upto s (Next i) j (itemFrom m (listed k)) (item-inside (listed k) i j
+      (omega (arith, past-one comma-local e .0)))))
+      (upto-or (Next i) s i (colon m k s i) _ (upto-then (Next i) s i _ (colonSign k s i) (λ _ j e. colon-inside i j (omega (arith, past-one (colonSign-local k) e .0))))
+      (afterBlank-inside (following k) i i (omega arith)))
 
 -- from an earlier place on, and before a later one
 rising-wide : (l : List Placed) (i j k n : ℕ) → i ≤ j → k ≤ n → Rising j l k → Rising i l n
@@ -75,11 +77,12 @@ module _ (m : Manner) (s : List ℕ) where
       go later (refused k q) e p = tt
 
   rule-rises : (separator i : ℕ) → Upto (λ r j. (r .0 .place ≡ i) × Rising i (r .1) j) (rule m separator s i)
-  unfolding rule behind chain
+  unfolding rule afterOpening chain
   rule-rises separator i =
-      upto-then _ s i (behind m i separator) (opening s i) (λ o j e.
+      upto-then _ s i (afterOpening m i separator) (opening s i) (λ o j e.
       upto-map _ s j (ruleOf i separator (o .comment)) (chainIn (suc (length s)) (more m) end (o .stage) s j)
-      (upto-less (Rises j) _ (λ r k h. (refl, rising-wide (r .0) i j k k (omega (arith, past opening-local e .moves)) (omega arith) (h .1))) (chainIn (suc (length s)) (more m) end (o .stage) s j) (pieces-rise (suc (length s)) (o .stage) j)))
+      (upto-less (Rises j) _ (λ r k h. (refl, rising-wide (r .0) i j k k (omega (arith, past opening-local e .moves)) (omega arith) (h .1))) (chainIn (suc (length s))
+      (more m) end (o .stage) s j) (pieces-rise (suc (length s)) (o .stage) j)))
 
 pub places-rise : PlacesRise
 places-rise m separator s i j r e =

@@ -12,7 +12,7 @@ use Rattle.names.specs.Texts.{byte, bytes, blank, blanks, allOf}
 use Rattle.names.specs.Names.{name}
 use Rattle.names.specs.Names as names
 use Rattle.items.specs.Musts.{missing}
-use Rattle.items.specs.Kinds.{apart}
+use Rattle.items.specs.Kinds.{afterBlank}
 use Rattle.rules.specs.Separators.{ruleEnd}
 use Rattle.rules.specs.Comments.{noComment, comment, commentApart}
 use Rattle.rules.specs.Modifiers.{tailOf, withComment, modifier}
@@ -49,14 +49,14 @@ module _ (s : List ℕ) where
   comment-small : (i : ℕ) → Found (Small (length s)) (comment s i)
   comment-small i = comment-has (Small (length s)) s (λ start end h k. (omega arith, omega arith)) i
 
-  apart-small : (i : ℕ) → Found (Small (length s)) (commentApart s i)
+  afterBlank-small : (i : ℕ) → Found (Small (length s)) (commentApart s i)
   unfolding commentApart
-  apart-small i = found-then _ s i _ (blank s i) (λ _ j _. comment-small j)
+  afterBlank-small i = found-then _ s i _ (blank s i) (λ _ j _. comment-small j)
 
   with-small : (state i : ℕ) → Found (SmallEnd (length s)) (withComment state s i)
   unfolding withComment
   with-small state i =
-      let h = found-or (Small (length s)) s i (commentApart s i) (pure noComment) (apart-small i) (no-small (length s)) in
+      let h = found-or (Small (length s)) s i (commentApart s i) (pure noComment) (afterBlank-small i) (no-small (length s)) in
       found-then _ s i _ (follow s i (commentApart s i) pure (pure noComment)) (λ c j e. found-is (Small (length s)) _ h e)
 
   modifier-small : (i : ℕ) → Found (SmallEnd (length s)) (modifier s i)
@@ -77,14 +77,17 @@ module _ (s : List ℕ) where
   empty-small P i = found-then P s i (λ _. refuse 11 i) (ruleEnd s i) (λ _ j _. tt)
 
   -- a modifier after a blank, or none
-  selected-small : (i : ℕ) → Found (SmallEnd (length s)) ((apart modifier or pure (tailOf 0 noComment)) s i)
+  selected-small : (i : ℕ) → Found (SmallEnd (length s)) ((afterBlank modifier or pure (tailOf 0 noComment)) s i)
   selected-small i =
-      found-or (SmallEnd (length s)) s i (apart modifier s i) (pure (tailOf 0 noComment)) (found-then (SmallEnd (length s)) s i (λ _. modifier) (blank s i) (λ _ j _. modifier-small j)) (no-small (length s))
+      found-or (SmallEnd (length s)) s i (afterBlank modifier s i) (pure (tailOf 0 noComment)) (found-then (SmallEnd (length s)) s i (λ _. modifier) (blank s i)
+      (λ _ j _. modifier-small j)) (no-small (length s))
 
   -- the comment of a rule's end
   pub end-small : (x : Stage) (i : ℕ) → Found (SmallEnd (length s)) (end x s i)
   unfolding end plainEnd
-  end-small Beginning i = found-or (SmallEnd (length s)) s i (modifier s i) (plainEnd Beginning) (modifier-small i) (found-or (SmallEnd (length s)) s i (empty s i) missing (empty-small (SmallEnd (length s)) i) (missing-small (SmallEnd (length s)) i))
+  end-small Beginning i =
+      found-or (SmallEnd (length s)) s i (modifier s i) (plainEnd Beginning) (modifier-small i) (found-or (SmallEnd (length s)) s i (empty s i) missing (empty-small
+      (SmallEnd (length s)) i) (missing-small (SmallEnd (length s)) i))
   end-small Always i = selected-small i
   end-small Colon i = selected-small i
   end-small (After k) i = selected-small i
@@ -102,7 +105,8 @@ module _ (s : List ℕ) where
   unfolding opening
   opening-small i e =
       let plain = pure (openingOf Beginning noComment) in
-      found-is (SmallOpening (length s)) _ (found-or (SmallOpening (length s)) s i (always s i) (branch wideComment pure plain) (always-small i) (found-or (SmallOpening (length s)) s i (wideComment s i) plain (wide-small i) (no-small (length s)))) e
+      found-is (SmallOpening (length s)) _ (found-or (SmallOpening (length s)) s i (always s i) (branch wideComment pure plain) (always-small i) (found-or (SmallOpening
+      (length s)) s i (wideComment s i) plain (wide-small i) (no-small (length s)))) e
 
 -- the comment that wins
 pub wins-small : (n : ℕ) (c wide : Comment) → Small n c → Small n wide → Small n (wins c wide)

@@ -18,7 +18,7 @@ use Rattle.names.proofs.Search.{word-letter}
 use Rattle.names.proofs.Skips.{map-map}
 use Rattle.names.specs.declared.Manner.{Manner}
 use Rattle.items.specs.Musts.{missing, must}
-use Rattle.items.specs.Kinds.{apart, Placed, itemIn}
+use Rattle.items.specs.Kinds.{afterBlank, Placed, itemIn}
 use Rattle.items.specs.declared.Kind.{Kind}
 use Rattle.items.proofs.Sure.{Sure, or-sure, sure-then, sure-or, must-sure, missing-apart}
 use Rattle.items.proofs.Standing.{name-is, name-other, name-none}
@@ -105,10 +105,10 @@ module _ (m : Manner) (s : List ℕ) (i : ℕ) where
   -- ---- after selectors, where neither a comma nor a colon goes on
 
   module _ (ks : List Kind) (x : Stage) where
-    abbrev afterBlank : Read Piece
-    afterBlank = branch (apart (itemFrom m ks)) items (branch (apart modifier) ends (map inr (plainEnd x))) s i
+    abbrev pieceAfterBlank : Read Piece
+    pieceAfterBlank = branch (afterBlank (itemFrom m ks)) items (branch (afterBlank modifier) ends (map inr (plainEnd x))) s i
 
-    pub blank-on : {j : ℕ} → blank s i ≡ got tt j → afterBlank ≡ branch (itemFrom m ks) items (branch modifier ends (λ s _. map inr (plainEnd x) s i)) s j
+    pub blank-on : {j : ℕ} → blank s i ≡ got tt j → pieceAfterBlank ≡ branch (itemFrom m ks) items (branch modifier ends (λ s _. map inr (plainEnd x) s i)) s j
     blank-on {j} e = rw e (go (itemFrom m ks s j))
       where
         end′ : (r : Read Tail) → follow s i r ends (map inr (plainEnd x)) ≡ follow s j r ends (λ s _. map inr (plainEnd x) s i)
@@ -116,28 +116,29 @@ module _ (m : Manner) (s : List ℕ) (i : ℕ) where
         end′ none = refl
         end′ (refused k p) = refl
 
-        go : (r : Read (Placed × Stage)) → follow s i r items (branch (apart modifier) ends (map inr (plainEnd x))) ≡ follow s j r items (branch modifier ends (λ s _. map inr (plainEnd x) s i))
+        go : (r : Read (Placed × Stage)) → follow s i r items (branch (afterBlank modifier) ends (map inr (plainEnd x))) ≡ follow s j r items (branch modifier ends (λ s _. map inr (plainEnd x) s i))
         go (got a k) = refl
         go none = rw e (end′ (modifier s j))
         go (refused k p) = refl
 
-    pub blank-off : blank s i ≡ none → afterBlank ≡ map inr (plainEnd x) s i
+    pub blank-off : blank s i ≡ none → pieceAfterBlank ≡ map inr (plainEnd x) s i
     blank-off e = rw e (rw e)
 
   -- `24/7`
-  pub always-piece : piece m Always s i ≡ branch (apart (itemFrom m [])) items (branch (apart modifier) ends (map inr (plainEnd Always))) s i
+  pub always-piece : piece m Always s i ≡ branch (afterBlank (itemFrom m [])) items (branch (afterBlank modifier) ends (map inr (plainEnd Always))) s i
   unfolding piece more end itemIn
   always-piece = go (blank s i) refl
     where
-      go : (r : Read (Unit {0})) → blank s i ≡ r → map inr (end Always) s i ≡ follow s i (follow s i r (λ _. itemFrom m []) nothing) items (branch (apart modifier) ends (map inr (plainEnd Always)))
-      go (got tt j) e = or-ends (apart modifier s i) (plainEnd Always)
-      go none e = or-ends (apart modifier s i) (plainEnd Always)
+      go : (r : Read (Unit {0})) → blank s i ≡ r →
+          map inr (end Always) s i ≡ follow s i (follow s i r (λ _. itemFrom m []) nothing) items (branch (afterBlank modifier) ends (map inr (plainEnd Always)))
+      go (got tt j) e = or-ends (afterBlank modifier s i) (plainEnd Always)
+      go none e = or-ends (afterBlank modifier s i) (plainEnd Always)
       go (refused k p) e = rw e
 
   -- the comment of a wide part, and its colon
   pub colon-piece : piece m Colon s i ≡ map inl (afterColon m) s i
   unfolding piece more
-  colon-piece = sure-then s i i inl (afterColon m s i) (map inr (end Colon)) (must-sure s i (apart (itemFrom m small)))
+  colon-piece = sure-then s i i inl (afterColon m s i) (map inr (end Colon)) (must-sure s i (afterBlank (itemFrom m small)))
 
   -- ---- after an item
 
@@ -146,26 +147,30 @@ module _ (m : Manner) (s : List ℕ) (i : ℕ) where
     unfolding piece more goesOn
     comma-piece {j} e =
         let n = must (itemFrom m (listed k)) in
-        rw e (ap (λ (r : Read (Placed × Stage)). follow s i r items (map inr (end (After k)))) (sure-or s i (n s j) (colon m k or apart (itemFrom m (following k))) (must-sure s j (itemFrom m (listed k)))) ∙ sure-then s i j inl (n s j) (map inr (end (After k))) (must-sure s j (itemFrom m (listed k))))
+        rw e (ap (λ (r : Read (Placed × Stage)). follow s i r items (map inr (end (After k)))) (sure-or s i (n s j) (colon m k or afterBlank (itemFrom m (following k)))
+        (must-sure s j (itemFrom m (listed k)))) ∙ sure-then s i j inl (n s j) (map inr (end (After k))) (must-sure s j (itemFrom m (listed k))))
 
     pub wide-piece : {j : ℕ} → comma s i ≡ none → colonSign k s i ≡ got tt j → piece m (After k) s i ≡ map inl (afterColon m) s j
     unfolding piece more goesOn colon
     wide-piece {j} c e =
-        rw (c, e) (ap (λ (r : Read (Placed × Stage)). follow s i r items (map inr (end (After k)))) (sure-or s i (afterColon m s j) (apart (itemFrom m (following k))) (must-sure s j (apart (itemFrom m small)))) ∙ sure-then s i j inl (afterColon m s j) (map inr (end (After k))) (must-sure s j (apart (itemFrom m small))))
+        rw (c, e) (ap (λ (r : Read (Placed × Stage)). follow s i r items (map inr (end (After k)))) (sure-or s i (afterColon m s j) (afterBlank (itemFrom m
+        (following k))) (must-sure s j (afterBlank (itemFrom m small))))
+        ∙ sure-then s i j inl (afterColon m s j) (map inr (end (After k))) (must-sure s j (afterBlank (itemFrom m small))))
 
     -- neither a comma nor a colon
-    after-end : map inr (end (After k)) s i ≡ branch (apart modifier) ends (map inr (plainEnd (After k))) s i
+    after-end : map inr (end (After k)) s i ≡ branch (afterBlank modifier) ends (map inr (plainEnd (After k))) s i
     unfolding end
-    after-end = or-ends (apart modifier s i) (plainEnd (After k))
+    after-end = or-ends (afterBlank modifier s i) (plainEnd (After k))
 
-    after-blank : (r : Read (Placed × Stage)) → follow s i r items (map inr (end (After k))) ≡ follow s i r items (branch (apart modifier) ends (map inr (plainEnd (After k))))
+    after-blank : (r : Read (Placed × Stage)) → follow s i r items (map inr (end (After k))) ≡ follow s i r items (branch (afterBlank modifier) ends (map inr (plainEnd (After k))))
     after-blank (got a j) = refl
     after-blank none = after-end
     after-blank (refused n p) = refl
 
-    pub bare-piece : comma s i ≡ none → colonSign k s i ≡ none → piece m (After k) s i ≡ branch (apart (itemFrom m (following k))) items (branch (apart modifier) ends (map inr (plainEnd (After k)))) s i
+    pub bare-piece : comma s i ≡ none → colonSign k s i ≡ none →
+        piece m (After k) s i ≡ branch (afterBlank (itemFrom m (following k))) items (branch (afterBlank modifier) ends (map inr (plainEnd (After k)))) s i
     unfolding piece more goesOn colon
-    bare-piece c e = rw (c, e) (after-blank (apart (itemFrom m (following k)) s i))
+    bare-piece c e = rw (c, e) (after-blank (afterBlank (itemFrom m (following k)) s i))
 
 -- ---- from the look at the place j where the rule goes on
 
@@ -215,7 +220,8 @@ module _ (m : Manner) (s : List ℕ) (j : ℕ) (ks : List Kind) where
     unfolding modifier
     may-unnamed e w = rw (e, name-none s j names.modifier w) (go (comment s j))
       where
-        go : (r : Read Comment) → follow s j (follow s j r (λ c. pure (tailOf 0 c)) nothing) ends (λ s _. map inr (plainEnd x) s i) ≡ follow s j r (λ m. pure (inr (tailOf 0 m))) (λ s _. map inr (plainEnd x) s i)
+        go : (r : Read Comment) → follow s j (follow s j r (λ c. pure (tailOf 0 c)) nothing) ends (λ s _. map inr (plainEnd x) s i) ≡ follow s j r (λ m. pure (inr
+            (tailOf 0 m))) (λ s _. map inr (plainEnd x) s i)
         go (got c q) = refl
         go none = refl
         go (refused q p) = refl

@@ -1,4 +1,4 @@
--- Comment: `"`, one or more bytes from 32 up except `"`, `"`. These bytes are well-formed UTF-8, or it is refused.
+-- Comment: `"`, one or more bytes from 32 up except `"`, `"`. These bytes are well-formed UTF-8, or it is refused (docs/RULES.md, 1).
 use Prim.Native.Nat.{ℕ, _-_}
 use lib.Dec.{ltb}
 use Rattle.names.specs.Read.{Reader, pure, refuse, here, only, one, _>>=_, _>>_, _or_}

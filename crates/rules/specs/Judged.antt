@@ -1,4 +1,4 @@
--- What reading a comment comes to: its bytes stand between quotes, and then they are judged.
+-- What reading a comment comes to: its bytes stand between quotes, and then they are judged (docs/RULES.md, 6).
 use Prim.Native.Nat.{ℕ, _+_, _-_}
 use mathlib.Core.List.{List}
 use mathlib.Core.Path.{_≡_}

@@ -1,4 +1,4 @@
--- Modifier: `open`, `closed`, `off` or `unknown`, optionally both blank and comment; or a comment alone (open).
+-- Modifier: `open`, `closed`, `off` or `unknown`, optionally both blank and comment; or a comment alone (open) (docs/RULES.md, 1).
 use Prim.Native.Nat.{ℕ}
 use Rattle.names.specs.Read.{Reader, pure, _>>=_, _>>_, _or_, maybe}
 use Rattle.names.specs.Names.{name, modifier as modifierName}

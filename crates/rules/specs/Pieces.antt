@@ -1,4 +1,4 @@
--- The pieces of a rule, in order: what may stand after what was read last.
+-- The pieces of a rule, in order: what may stand after what was read last (docs/RULES.md, 1).
 use mathlib.Core.List.{List}
 use mathlib.Core.Logic.{_⊎_, inl, inr}
 use Rattle.names.specs.Read.{Reader, branch, nothing, pure, refuse, here, map, only, _>>_, _>>=_, _or_}
@@ -6,7 +6,7 @@ use Rattle.names.specs.Texts.{sign, comma}
 use Rattle.names.specs.Refusals.{emptyRule}
 use Rattle.names.specs.declared.Manner.{Manner}
 use Rattle.items.specs.Musts.{missing, must}
-use Rattle.items.specs.Kinds.{apart, Placed, itemIn}
+use Rattle.items.specs.Kinds.{afterBlank, Placed, itemIn}
 use Rattle.items.specs.declared.Kind.{Kind}
 use Rattle.rules.specs.Separators.{ruleEnd}
 use Rattle.rules.specs.Comments.{noComment}
@@ -28,7 +28,7 @@ goesOn m k = do
 
 -- a colon needs a blank and a small part after it
 abbrev pub afterColon : Manner → Reader (Placed × Stage)
-afterColon m = must (apart (itemFrom m small))
+afterColon m = must (afterBlank (itemFrom m small))
 
 -- a wide part may end in a colon
 unfoldable pub colonSign : Kind → Reader (Unit {0})
@@ -46,7 +46,7 @@ unfoldable pub more : Manner → Stage → Reader (Placed × Stage)
 more m Beginning = itemFrom m first
 more m Always = nothing
 more m Colon = afterColon m
-more m (After k) = goesOn m k or colon m k or apart (itemFrom m (following k))
+more m (After k) = goesOn m k or colon m k or afterBlank (itemFrom m (following k))
 
 -- an empty rule: nothing but blanks up to the text's end or a separator
 unfoldable pub empty : Reader Tail
@@ -65,9 +65,9 @@ plainEnd (After k) = pure (tailOf 0 noComment)
 -- how a rule ends: a modifier has to stand there without selectors, and may stand after them and a blank
 unfoldable pub end : Stage → Reader Tail
 end Beginning = modifier or plainEnd Beginning
-end Always = apart modifier or plainEnd Always
-end Colon = apart modifier or plainEnd Colon
-end (After k) = apart modifier or plainEnd (After k)
+end Always = afterBlank modifier or plainEnd Always
+end Colon = afterBlank modifier or plainEnd Colon
+end (After k) = afterBlank modifier or plainEnd (After k)
 
 -- a piece of a rule: an item, or else the rule's end
 unfoldable pub piece : Manner → Stage → Reader ((Placed × Stage) ⊎ Tail)

@@ -1,4 +1,4 @@
--- The places of a rule and of its items.
+-- The places of a rule and of its items (docs/RULES.md, 5).
 use Prim.Native.Nat.{ℕ, suc, _≤_, _<_}
 use mathlib.Core.List.{List, [], _∷_}
 use mathlib.Core.Path.{_≡_}

@@ -1,4 +1,4 @@
--- What may stand in a rule after an item of a kind: a row for each kind.
+-- What may stand in a rule after an item of a kind: a row for each kind (docs/RULES.md, 1).
 use mathlib.Core.Bool.{Bool, true, false}
 use mathlib.Core.List.{List, [], _∷_}
 use Rattle.items.specs.declared.Kind.{Kind}

@@ -1,4 +1,4 @@
--- One rule, and what parts it from the next.
+-- One rule, and what parts it from the next (docs/RULES.md, 1).
 use Prim.Native.Nat.{ℕ}
 use mathlib.Core.List.{List}
 use lib.Dec.{eqb}
@@ -62,16 +62,16 @@ Rule = Head × List Placed
 abbrev pub ruleOf : ℕ → ℕ → Comment → List Placed × Tail → Rule
 ruleOf place separator wide r = (headOf place separator (r .1) wide (length (r .0)), r .0)
 
--- the pieces of a rule that begins at a place, behind its opening
-unfoldable pub behind : Manner → ℕ → ℕ → Opening → Reader Rule
-behind m place separator o = map (ruleOf place separator o.comment) (chain (more m) end o.stage)
+-- the pieces of a rule that begins at a place, after its opening
+unfoldable pub afterOpening : Manner → ℕ → ℕ → Opening → Reader Rule
+afterOpening m place separator o = map (ruleOf place separator o.comment) (chain (more m) end o.stage)
 
 -- a rule: its place is where it begins
 unfoldable pub rule : Manner → ℕ → Reader Rule
 rule m separator = do
   p ← here
   o ← opening
-  behind m p separator o
+  afterOpening m p separator o
 
 -- a rule's head alone
 abbrev pub counted : Manner → ℕ → Reader Head

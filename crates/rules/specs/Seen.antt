@@ -7,7 +7,7 @@ use mathlib.Core.Logic.{_⊎_, inl, inr}
 use Rattle.names.specs.Read.{Read, got, none, refused, branch, pure, map}
 use Rattle.names.specs.declared.Manner.{Manner}
 use Rattle.items.specs.Musts.{missing, must}
-use Rattle.items.specs.Kinds.{apart, Placed}
+use Rattle.items.specs.Kinds.{afterBlank, Placed}
 use Rattle.items.specs.Sets.{kindsOf}
 use Rattle.items.specs.declared.Kind.{Kind}
 use Rattle.rules.specs.Modifiers.{modifier}
@@ -56,7 +56,9 @@ ColonTurns s c r = (m : Manner) (x : Stage) (i : ℕ) → map inl (afterColon m)
 
 -- the turn of a rule after selectors, at c: after a blank one of these kinds may stand, or a modifier
 abbrev pub BlankTurns : List Kind → List ℕ → ℕ → Turn → Type 0
-BlankTurns ks s c r = (m : Manner) (x : Stage) → branch (apart (itemFrom m ks)) (λ a. pure (inl a)) (branch (apart modifier) (λ t. pure (inr t)) (map inr (plainEnd x))) s c ≡ turned m s x c r
+BlankTurns ks s c r =
+    (m : Manner) (x : Stage) → branch (afterBlank (itemFrom m ks)) (λ a. pure (inl a)) (branch (afterBlank modifier) (λ t. pure (inr t)) (map inr
+    (plainEnd x))) s c ≡ turned m s x c r
 
 -- what is always there, if only as nothing, or refused
 abbrev pub seenOpening : OpeningRead → Read Opening

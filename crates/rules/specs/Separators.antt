@@ -1,4 +1,4 @@
--- What parts a rule from the next.
+-- What parts a rule from the next (docs/RULES.md, 1).
 use mathlib.Core.Bool.{_||_}
 use lib.Dec.{eqb}
 use lib.ListN.{length, getD}

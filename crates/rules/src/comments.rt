@@ -87,7 +87,7 @@ pub fn comment(s: &[u8], c: Cursor) -> CommentRead
 }
 
 // A blank and a comment.
-pub fn comment_apart(s: &[u8], c: Cursor) -> CommentRead
+pub fn comment_after_blank(s: &[u8], c: Cursor) -> CommentRead
     ensures { λ r. ⌜ comments.commentApart (now (s .entry)) (c .at) ≡ seenComment r ⌝ }
 {
     let before = c.blank(s);

@@ -81,7 +81,7 @@ pub struct Head {
     pub items: usize,
 }
 
-// What stands behind a rule: a separator and then a rule, or the text's end.
+// What stands after a rule: a separator and then a rule, or the text's end.
 pub enum Next {
     Another(u8),
     Finished,

@@ -9,7 +9,7 @@ use crate::Comment;
 use crate::CommentRead;
 use crate::Piece;
 use crate::Tail;
-use crate::comments::comment_apart;
+use crate::comments::comment_after_blank;
 use names::Cursor;
 
 // No comment.
@@ -26,8 +26,8 @@ pub fn no_comment() -> Comment
 pub fn with_comment(s: &[u8], c: Cursor, state: u8) -> Piece
     ensures { λ r. ⌜ map inr (withComment state) (now (s .entry)) (c .at) ≡ seenPiece r ⌝ }
 {
-    let apart = comment_apart(s, c);
-    match apart {
+    let read = comment_after_blank(s, c);
+    match read {
         CommentRead::Got(some, d) => Piece::End(
             Tail {
                 state,

@@ -93,7 +93,8 @@ Bounded n i (refused k p) = p ≤ n
 
 module _ (m : Manner) (s : List ℕ) where
   -- a rule more
-  bounded-more : (r : Rule) (i j : ℕ) → i + suc (length (r .1)) ≤ j → OfRule (UpTo (length s)) r → (x : Read (List Rule × Unit {0})) → Bounded (length s) j x → Bounded (length s) i (follow s j x (λ l. pure (before r l)) nothing)
+  bounded-more : (r : Rule) (i j : ℕ) → i + suc (length (r .1)) ≤ j → OfRule (UpTo (length s)) r → (x : Read (List Rule × Unit {0})) → Bounded (length s) j x →
+      Bounded (length s) i (follow s j x (λ l. pure (before r l)) nothing)
   bounded-more r i j h w (got l k) b = (omega (arith, records-more r (l .0), b .0), more-broken (UpTo (length s)) r (l .0) w (b .1))
   bounded-more r i j h w none b = tt
   bounded-more r i j h w (refused e p) b = b

@@ -17,7 +17,7 @@ use Rattle.records.specs.Tables.{asWords, asBytes, Tables, keptIn, allKept}
 use Rattle.items.specs.Kinds.{Placed}
 use Rattle.records.proofs.Keeps.{length-kept, all-head}
 use Rattle.rules.specs.Pieces.{more, end, piece}
-use Rattle.rules.specs.Rules.{opening, headOf, Rule, ruleOf, behind, rule}
+use Rattle.rules.specs.Rules.{opening, headOf, Rule, ruleOf, afterOpening, rule}
 use Rattle.rules.specs.declared.Comment.{Comment}
 use Rattle.rules.specs.declared.Opening.{Opening}
 use Rattle.rules.specs.declared.Stage.{Stage}
@@ -69,7 +69,7 @@ module _ (m : Manner) (place separator : ℕ) (wide : Comment) (slot : ℕ) wher
   module _ (s : List ℕ) (t : Tables) where
     -- after the opening: no item yet
     left-opening : {o : Opening} {j : ℕ} → opening s place ≡ got o j → wide ≡ o .comment → ruleInto m t slot separator s place ≡ map headed (left t (begun m separator place) 0 (o .stage)) s j
-    unfolding rule behind
+    unfolding rule afterOpening
     left-opening {o} {j} e w =
         let none = begun m separator place in
         rw (e, ← w)
@@ -129,7 +129,8 @@ module _ (m : Manner) (place separator : ℕ) (wide : Comment) (slot : ℕ) (s :
   turn-begin = record { low = omega arith; few = omega arith; words = refl; bytes = refl; reads = refl }
 
   -- an item more
-  pub turn-more : (table : Tables) (h : Judgement) (n : ℕ) (x : Stage) (i : ℕ) {a : Placed} {x₂ : Stage} {k : ℕ} → Turn m place separator wide slot s t y j table h n x i → more m x s i ≡ got (a, x₂) k →
+  pub turn-more : (table : Tables) (h : Judgement) (n : ℕ) (x : Stage) (i : ℕ) {a : Placed} {x₂ : Stage} {k : ℕ} →
+      Turn m place separator wide slot s t y j table h n x i → more m x s i ≡ got (a, x₂) k →
       Turn m place separator wide slot s t y j (keptIn table (slot + (n + 1)) (itemRecord a)) (withItem m h a) (n + 1) x₂ k
   turn-more table h n x i {a} z e =
       let p = past-one (more-local m x) e in
@@ -142,14 +143,16 @@ module _ (m : Manner) (place separator : ℕ) (wide : Comment) (slot : ℕ) (s :
       }
 
   -- the rule, from what is left
-  pub turn-whole : {o : Opening} (table : Tables) (h : Judgement) (n : ℕ) (x : Stage) (i : ℕ) {r : Read Filled} → opening s place ≡ got o j → wide ≡ o .comment → y ≡ o .stage → Turn m place separator wide slot s t y j table h n x i →
+  pub turn-whole : {o : Opening} (table : Tables) (h : Judgement) (n : ℕ) (x : Stage) (i : ℕ) {r : Read Filled} → opening s place ≡ got o j → wide ≡ o .comment →
+      y ≡ o .stage → Turn m place separator wide slot s t y j table h n x i →
       left m place separator wide slot table h n x s i ≡ r → ruleInto m t slot separator s place ≡ follow s j r (λ f. pure (headed m place separator wide slot f)) nothing
   turn-whole table h n x i e w q z f = left-opening m place separator wide slot s t e w ∙ rw (← q, ← z .reads, f)
 
 -- ---- a head's numbers
 
 -- the head's comment stands in its text
-pub head-small : (m : Manner) (place separator : ℕ) (wide : Comment) (b : Tail) (s : List ℕ) (n i k : ℕ) (x : Stage) → Small (length s) wide → piece m x s i ≡ got (inr b) k → Small (length s) (headOf place separator b wide n .comment)
+pub head-small : (m : Manner) (place separator : ℕ) (wide : Comment) (b : Tail) (s : List ℕ) (n i k : ℕ) (x : Stage) → Small (length s) wide →
+    piece m x s i ≡ got (inr b) k → Small (length s) (headOf place separator b wide n .comment)
 head-small m place separator wide b s n i k x w e = wins-small (length s) (b .comment) wide (subst (Found (SmallEnd (length s))) (piece-tail m x s i e) (end-small s x i)) w
 
 -- and the rule begins in it

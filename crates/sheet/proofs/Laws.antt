@@ -60,7 +60,8 @@ pub part-quoted : (inside : Bool) (s : List ℕ) (i : ℕ) → i < length s → 
 part-quoted inside s i h e o = one-more inside s i (partIn inside (drop i s)) (rw (part-at inside s i h, e, o))
 
 -- and every other byte belongs to the part
-pub part-more : (inside next : Bool) (s : List ℕ) (i : ℕ) → i < length s → (getD s i 0 ≡ 59 → ⊥) → next ≡ flips (getD s i 0) inside → i + partIn inside (drop i s) ≡ (i + 1) + partIn next (drop (i + 1) s)
+pub part-more : (inside next : Bool) (s : List ℕ) (i : ℕ) → i < length s → (getD s i 0 ≡ 59 → ⊥) → next ≡ flips (getD s i 0) inside →
+    i + partIn inside (drop i s) ≡ (i + 1) + partIn next (drop (i + 1) s)
 part-more inside next s i h e t = one-more next s i (partIn inside (drop i s)) (rw (part-at inside s i h, ne-eqb (getD s i 0) 59 e, t))
 
 -- the last part ends with the text
@@ -85,10 +86,10 @@ unfolding begins
 begins-at s zero h = absurd (h refl)
 begins-at s (suc i) h = let e : i ≡ suc i - 1 = omega arith in ap (λ j. eqb (getD s j 0) 59 && not (insideOf (take j s))) e
 
--- behind a `;` a part begins, if that stands outside
-pub begins-behind : (s : List ℕ) (p : ℕ) (inside : Bool) → (p ≡ 0 → ⊥) → getD s (p - 1) 0 ≡ 59 → inside ≡ insideOf (take (p - 1) s) → not inside ≡ begins s p
-begins-behind s p inside h e o = rw (begins-at s p h, e, o)
+-- after a `;` a part begins, if that stands outside
+pub begins-after : (s : List ℕ) (p : ℕ) (inside : Bool) → (p ≡ 0 → ⊥) → getD s (p - 1) 0 ≡ 59 → inside ≡ insideOf (take (p - 1) s) → not inside ≡ begins s p
+begins-after s p inside h e o = rw (begins-at s p h, e, o)
 
--- and behind no other byte
+-- and after no other byte
 pub begins-not : (s : List ℕ) (p : ℕ) → (p ≡ 0 → ⊥) → (getD s (p - 1) 0 ≡ 59 → ⊥) → false ≡ begins s p
 begins-not s p h e = rw (begins-at s p h, ne-eqb (getD s (p - 1) 0) 59 e)

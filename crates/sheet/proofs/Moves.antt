@@ -1,4 +1,4 @@
--- The move law: the rules of a text that stands behind u are its rules, with their places moved.
+-- The move law: the rules of a text that stands after u are its rules, with their places moved.
 use Prim.Native.Nat.{ℕ, _+_, _≤_, _<_}
 use mathlib.Core.List.{List, [], _++_, append-nil}
 use mathlib.Core.Bool.{Bool, false}
@@ -63,5 +63,6 @@ pub takes : (m : Manner) (x : Next) (s : List ℕ) (i : ℕ) → Ends (λ j. (i 
 takes m x = ends-later (moreRules-ended m {u = []} x)
 
 -- the rules of a text are a rule and those from there, or the end
-pub rules-are : (m : Manner) (x : Next) (s : List ℕ) (i : ℕ) → chain (moreRules m) noMore x s i ≡ branch (moreRules m x) (λ c. map (before (c .0)) (chain (moreRules m) noMore (c .1))) (map last (noMore x)) s i
+pub rules-are : (m : Manner) (x : Next) (s : List ℕ) (i : ℕ) →
+    chain (moreRules m) noMore x s i ≡ branch (moreRules m x) (λ c. map (before (c .0)) (chain (moreRules m) noMore (c .1))) (map last (noMore x)) s i
 rules-are m = chain-is (moreRules m) noMore (takes m)

@@ -60,7 +60,7 @@ module _ (sheet note : ℕ) where
     some : natAbs y ≡ 0 → ⊥
     some z = h (size l y e n ∙ ap pos z)
 
-    -- an end behind the sheet
+    -- an end after the sheet
     pub noted-past : sheet < natAbs x + natAbs y → (false, (0, 0)) ≡ notePart sheet note a l
     unfolding notePart
     noted-past k = rw (size a x d m, size l y e n, ne-eqb (natAbs y) 0 some, lt-leb _ _ k)

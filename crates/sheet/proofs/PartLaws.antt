@@ -46,13 +46,13 @@ unfolding insideOf
 inside-append [] t = refl
 inside-append (x ∷ s) t = ap (flips x) (inside-append s t) ∙ turn-turn (eqb x 34) (insideOf s) (insideOf t)
 
--- behind a text whose quotes pair
-pub inside-behind : (s t : List ℕ) → insideOf s ≡ false → insideOf (s ++ t) ≡ insideOf t
-inside-behind s t h = rw (inside-append s t, h)
+-- after a text whose quotes pair
+pub inside-after : (s t : List ℕ) → insideOf s ≡ false → insideOf (s ++ t) ≡ insideOf t
+inside-after s t h = rw (inside-append s t, h)
 
 -- ---- the part at the start of a text
 
--- a part that is a whole text goes on in what stands behind
+-- a part that is a whole text goes on in what stands after
 pub part-on : (i : Bool) (x t : List ℕ) → partIn i x ≡ length x → partIn i (x ++ t) ≡ length x + partIn (turn (insideOf x) i) t
 unfolding partIn insideOf
 part-on i [] t h = omega arith
@@ -84,7 +84,8 @@ unfolding partIn
 part-same i [] = refl
 part-same i (b ∷ s) = go (eqb b 59 && not i) refl (part-same (flips b i) s)
   where
-    go : (c : Bool) → (eqb b 59 && not i) ≡ c → partIn (flips b i) (take (partIn (flips b i) s) s) ≡ partIn (flips b i) s → partIn i (take (if c then 0 else suc (partIn (flips b i) s)) (b ∷ s)) ≡ (if c then 0 else suc (partIn (flips b i) s))
+    go : (c : Bool) → (eqb b 59 && not i) ≡ c → partIn (flips b i) (take (partIn (flips b i) s) s) ≡ partIn (flips b i) s →
+        partIn i (take (if c then 0 else suc (partIn (flips b i) s)) (b ∷ s)) ≡ (if c then 0 else suc (partIn (flips b i) s))
     go true e h = refl
     go false e h = rw (e, h)
 
@@ -124,13 +125,13 @@ part-paired s h = sym (turn-none (insideOf (take (partIn false s) s))) ∙ (part
 
 -- ---- where parts begin
 
--- behind a `;` outside, parts begin as in the text there
+-- after a `;` outside, parts begin as in the text there
 pub begins-later : (u t : List ℕ) (p : ℕ) → insideOf u ≡ false → begins (u ++ 59 ∷ t) (suc (length u + p)) ≡ begins t p
 unfolding begins insideOf
-begins-later u t zero h = rw (getD-append-add u (59 ∷ t) 0 0, take-append-add u (59 ∷ t) 0, inside-behind u [] h)
-begins-later u t (suc p) h = rw (getD-append-add u (59 ∷ t) (suc p) 0, take-append-add u (59 ∷ t) (suc p), inside-behind u (59 ∷ take p t) h)
+begins-later u t zero h = rw (getD-append-add u (59 ∷ t) 0 0, take-append-add u (59 ∷ t) 0, inside-after u [] h)
+begins-later u t (suc p) h = rw (getD-append-add u (59 ∷ t) (suc p) 0, take-append-add u (59 ∷ t) (suc p), inside-after u (59 ∷ take p t) h)
 
--- what stands behind a place does not matter
+-- what stands after a place does not matter
 pub begins-earlier : (s t : List ℕ) (p : ℕ) → p ≤ length s → begins (s ++ t) p ≡ begins s p
 unfolding begins
 begins-earlier s t zero h = refl
@@ -156,14 +157,14 @@ begins-outside s (suc i) b =
 pub begins-from : (s : List ℕ) (p k : ℕ) → begins s p ≡ true → begins s (p + k) ≡ begins (drop p s) k
 unfolding begins
 begins-from s p zero b = rw (add-zero p) b
-begins-from s p (suc k) b = rw (add-suc p k, ← getD-drop p s k 0, take-add p k s, inside-behind (take p s) (take k (drop p s)) (begins-outside s p b))
+begins-from s p (suc k) b = rw (add-suc p k, ← getD-drop p s k 0, take-add p k s, inside-after (take p s) (take k (drop p s)) (begins-outside s p b))
 
 -- none begins in the first part
 pub begins-first-part : (s : List ℕ) (k : ℕ) → k < partIn false s → begins s (suc k) ≡ false
 unfolding begins
 begins-first-part s k h = rw (← turn-none (insideOf (take k s))) (part-none false s k h)
 
--- the next begins behind the `;` that ends it
+-- the next begins after the `;` that ends it
 pub begins-second : (s : List ℕ) → partIn false s < length s → begins s (suc (partIn false s)) ≡ true
 unfolding begins
 begins-second s h = rw (part-ended false s h .0, part-paired s h)
@@ -175,7 +176,7 @@ begins-none s p q b h l =
     let e : q ≡ p + suc (q - suc p) = omega arith in
     rw e (begins-from s p (suc (q - suc p)) b ∙ begins-first-part (drop p s) (q - suc p) (omega arith))
 
--- the next part begins behind the `;` that ends one
+-- the next part begins after the `;` that ends one
 pub begins-next : (s : List ℕ) (p : ℕ) → begins s p ≡ true → partEnd s p < length s → begins s (suc (partEnd s p)) ≡ true
 unfolding partEnd
 begins-next s p b h =
@@ -190,7 +191,7 @@ pub end-fits : (s : List ℕ) (p : ℕ) → p ≤ length s → partEnd s p ≤ l
 unfolding partEnd
 end-fits s p h = omega (arith, part-fits false (drop p s), length-drop p s)
 
--- what stands behind the `;` that ends a part does not matter
+-- what stands after the `;` that ends a part does not matter
 part-earlier : (i : Bool) (a b c : List ℕ) → partIn i (a ++ b) < length a → partIn i (a ++ c) ≡ partIn i (a ++ b)
 unfolding partIn
 part-earlier i [] b c h = absurd (omega arith)

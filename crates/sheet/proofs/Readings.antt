@@ -62,7 +62,8 @@ unfolding textOf
 text-held m s p n = go (judgedRules m s p)
   where
     all : (l : List Rule) (full : Bool) → ltb (n / 16) (length (records l)) ≡ full →
-        Held n ((if full then refusal 10 p else (answerOf 0 0 (length (records l)) (warningsOf (drop p s)), records l)) .0 .records) ((if full then refusal 10 p else (answerOf 0 0 (length (records l)) (warningsOf (drop p s)), records l)) .1)
+        Held n ((if full then refusal 10 p else (answerOf 0 0 (length (records l)) (warningsOf (drop p s)), records l)) .0 .records) ((if full then refusal 10 p else
+        (answerOf 0 0 (length (records l)) (warningsOf (drop p s)), records l)) .1)
     all l true e = held-none n
     all l false e = record { many = refl; long = records-sixteen l; room = ltb-false (n / 16) (length (records l)) e }
 
@@ -183,14 +184,16 @@ module _ (m : Manner) (u : Tables) where
     part-nowhere h e = rw (le-ltb 4096 (length s) h, e) (into-none (partRefusal 2 .0))
 
     -- a part is the text up to its end, from its beginning on
-    pub part-text : {a : Answer} {u′ : Tables} → length s ≤ 4096 → begins s p ≡ true → (a, u′) ≡ into u (textOf m (take (partEnd s p) s) p n) → (withNext s (partEnd s p) a, u′) ≡ into u (partBy m s p n)
+    pub part-text : {a : Answer} {u′ : Tables} → length s ≤ 4096 → begins s p ≡ true → (a, u′) ≡ into u (textOf m (take (partEnd s p) s) p n) →
+        (withNext s (partEnd s p) a, u′) ≡ into u (partBy m s p n)
     unfolding partBy
     part-text h e f = ap (λ (r : Answer × Tables). (withNext s (partEnd s p) (r .0), r .1)) f ∙ rw (le-ltb 4096 (length s) h, e)
 
 -- ---- one of the tables
 
 -- a reading's records kept in a table that holds them are written over it
-into-written : {A B : Type 0} (d : Layout B) (of : Tables → List B) (one : (t : Tables) (k : ℕ) (r : List ℤ) → of (keptIn t k r) ≡ kept d (of t) k r) (t : Tables) {t′ : Tables} {a : A} (x : A × List (List ℤ)) →
+into-written : {A B : Type 0} (d : Layout B) (of : Tables → List B) (one : (t : Tables) (k : ℕ) (r : List ℤ) →
+    of (keptIn t k r) ≡ kept d (of t) k r) (t : Tables) {t′ : Tables} {a : A} (x : A × List (List ℤ)) →
     length (x .1) * d .width ≤ length (of t) → (a, t′) ≡ into t x → (a, of t′) ≡ writtenAs d (of t) x
 into-written {A} {B} d of one t x h e =
     ap (λ (y : A × Tables). (y .0, of (y .1))) e
@@ -201,5 +204,6 @@ pub into-words : {A : Type 0} {count : ℕ} (t : Tables) {t′ : Tables} {a : A}
 into-words t x h = into-written asWords (λ y. y .0) (λ _ _ _. refl) t x (omega (arith, h .room, div-mul-le-self (length (t .0)) 16))
 
 -- of bytes
-pub into-bytes : {A : Type 0} {count : ℕ} (t : Tables) {t′ : Tables} {a : A} (x : A × List (List ℤ)) → Held (wordsIn (length (t .1))) count (x .1) → (a, t′) ≡ into t x → (a, t′ .1) ≡ writtenAs asBytes (t .1) x
+pub into-bytes : {A : Type 0} {count : ℕ} (t : Tables) {t′ : Tables} {a : A} (x : A × List (List ℤ)) → Held (wordsIn (length (t .1))) count (x .1) → (a, t′) ≡ into t x →
+    (a, t′ .1) ≡ writtenAs asBytes (t .1) x
 into-bytes t x h = into-written asBytes (λ y. y .1) (λ _ _ _. refl) t x (omega (arith, h .room, div-mul-le-self (length (t .1)) 64))

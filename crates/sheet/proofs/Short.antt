@@ -1,4 +1,4 @@
--- No name that is written with a capital, a small letter and no letter behind them calls for a warning.
+-- No name that is written with a capital, a small letter and no letter after them calls for a warning.
 use Prim.Native.Nat.{ℕ, suc, _+_}
 use mathlib.Core.List.{List, [], _∷_}
 use mathlib.Core.Bool.{Bool, true, false, _&&_, not, true≢false, and-eq-true-iff}

@@ -12,30 +12,31 @@ use Rattle.names.specs.Tests.{within}
 use Rattle.names.specs.Read.{Read, got, none, refused, Reader, follow, nothing, pure, map, _>>=_}
 use Rattle.names.specs.Chain.{before, last, chainIn, chain}
 use Rattle.names.specs.Names.{Row, names, spelledSo, lower, letter, firstOf, word, name, weekday, holiday, event, week}
-use Rattle.names.proofs.Local.{Stop, keep, Local, past, past-one, loose, free, nothing-local, pure-local, here-then, only-local, branch-moved, branch-local, bind-local, then-local, map-local, or-local}
+use Rattle.names.proofs.Local.{Stop, keep, Local, past, past-one, loose, free, nothing-local, pure-local, here-then, only-local, branch-moved, branch-local, bind-local, then-local}
+use Rattle.names.proofs.Local.{map-local, or-local}
 use Rattle.names.proofs.Upto.{Upto, upto-then, upto-map, upto-less}
 use Rattle.names.proofs.Chains.{step-moves}
 use Rattle.names.proofs.Cut.{byte-local, blank-local, comma-local, hour-local, minute-local}
 use Rattle.names.proofs.NameCut.{plain, allOf-local, name-local}
 use Rattle.records.specs.declared.Item.{Item}
 use Rattle.records.proofs.Cut.{Alike, item-alike}
-use Rattle.times.specs.Times.{clock, movedEvent, rawTime}
+use Rattle.times.specs.Times.{clock, eventWithOffset, rawTime}
 use Rattle.times.specs.Spans.{spanShape, timeItem}
 use Rattle.times.specs.Meanings.{spanMeaning}
-use Rattle.times.proofs.Cut.{moved-alike, spanBehind-alike, meaning-refuses, timeItem-alike}
+use Rattle.times.proofs.Cut.{withOffset-alike, spanAfter-alike, meaning-refuses, timeItem-alike}
 use Rattle.days.specs.Weekdays.{weekdayShape, weekdayMeaning, weekdayItem}
 use Rattle.days.specs.Holidays.{holidayShape, holidayMeaning, holidayItem}
-use Rattle.days.proofs.Cut.{weekdayBehind-alike, holidayBehind-alike, weekday-refuses, holiday-refuses, weekdayItem-alike, holidayItem-alike}
+use Rattle.days.proofs.Cut.{weekdayAfter-alike, holidayAfter-alike, weekday-refuses, holiday-refuses, weekdayItem-alike, holidayItem-alike}
 use Rattle.dates.specs.Dates.{optionalYear}
-use Rattle.dates.specs.MonthDays.{monthDayBehind, monthDayItem}
-use Rattle.dates.proofs.Cut.{optionalYear-alike, monthDayBehind-alike, yearItem-alike, weekItem-alike, monthDayItem-alike}
+use Rattle.dates.specs.MonthDays.{monthDayAfter, monthDayItem}
+use Rattle.dates.proofs.Cut.{optionalYear-alike, monthDayAfter-alike, yearItem-alike, weekItem-alike, monthDayItem-alike}
 use Rattle.items.specs.Kinds.{Placed, weeks, itemOf, itemIn}
 use Rattle.items.specs.declared.Kind.{Kind}
 use Rattle.items.specs.declared.Kind.the-variants.{Years, MonthDays, Weeks, Weekdays, Holidays, Times}
-use Rattle.items.proofs.Cut.{must-local, apart-local, placedMoves, at-local}
+use Rattle.items.proofs.Cut.{must-local, afterBlank-local, placedMoves, at-local}
 use Rattle.rules.specs.Rows.{small, first, listed, following, isWide}
 use Rattle.rules.specs.Pieces.{goesOn, colonSign, colon, more, end}
-use Rattle.rules.specs.Rules.{opening, Rule, ruleOf, behind, rule}
+use Rattle.rules.specs.Rules.{opening, Rule, ruleOf, afterOpening, rule}
 use Rattle.rules.specs.declared.Stage.{Stage}
 use Rattle.rules.specs.declared.Stage.the-variants.{Beginning, Always, Colon, After}
 use Rattle.rules.specs.declared.Tail.{Tail}
@@ -71,36 +72,41 @@ module _ {u : List ℕ} where
 
   weekday-two : (m : Manner) → Alike u 2 (weekdayItem m)
   unfolding weekdayItem weekdayShape
-  weekday-two m = item-alike (then-local (name-two weekday) (weekdayBehind-alike m)) weekdayMeaning weekday-refuses
+  weekday-two m = item-alike (then-local (name-two weekday) (weekdayAfter-alike m)) weekdayMeaning weekday-refuses
 
   holiday-two : Alike u 2 holidayItem
   unfolding holidayItem holidayShape
-  holiday-two = item-alike (then-local (name-two holiday) holidayBehind-alike) holidayMeaning holiday-refuses
+  holiday-two = item-alike (then-local (name-two holiday) holidayAfter-alike) holidayMeaning holiday-refuses
 
   clock-two : Alike u 2 clock
   unfolding clock
   clock-two = bind-local hour-local (λ h. then-local (byte-local 58 refl refl) (λ _. then-local (free minute-local) (λ m. pure-local _)))
 
-  event-two : Alike u 2 movedEvent
-  unfolding movedEvent
-  event-two = bind-local (byte-local 40 refl refl) (λ _. then-local (name-local event) (λ e. then-local (free (moved-alike e)) (λ t. then-local (free (byte-local 41 refl refl)) (λ _. pure-local t))))
+  event-two : Alike u 2 eventWithOffset
+  unfolding eventWithOffset
+  event-two =
+      bind-local (byte-local 40 refl refl) (λ _. then-local (name-local event) (λ e. then-local (free (withOffset-alike e)) (λ t. then-local (free
+      (byte-local 41 refl refl)) (λ _. pure-local t))))
 
   time-two : (m : Manner) → Alike u 2 (timeItem m)
   unfolding timeItem spanShape rawTime
-  time-two m = item-alike (then-local (or-local (then-local clock-two (λ c. pure-local _)) (or-local (then-local (name-two event) (λ e. pure-local _)) event-two)) spanBehind-alike) (spanMeaning m) (meaning-refuses m)
+  time-two m =
+      item-alike (then-local (or-local (then-local clock-two (λ c. pure-local _)) (or-local (then-local (name-two event)
+      (λ e. pure-local _)) event-two)) spanAfter-alike) (spanMeaning m) (meaning-refuses m)
 
   month-day-two : Alike u 2 monthDayItem
   unfolding monthDayItem
   month-day-two =
-      let f : ℕ → Reader Item = λ p. optionalYear >>= λ y. word >>= λ w. monthDayBehind p y w in
-      here-then f f (λ p. bind-local optionalYear-alike (λ y. then-local word-two (monthDayBehind-alike p y)))
+      let f : ℕ → Reader Item = λ p. optionalYear >>= λ y. word >>= λ w. monthDayAfter p y w in
+      here-then f f (λ p. bind-local optionalYear-alike (λ y. then-local word-two (monthDayAfter-alike p y)))
 
   weeks-two : Local Stop placedMoves u false false 2 weeks weeks
   unfolding weeks
-  weeks-two = bind-local {l = 1} (name-local week) (λ _. must-local (apart-local (at-local weekItem-alike)))
+  weeks-two = bind-local {l = 1} (name-local week) (λ _. must-local (afterBlank-local (at-local weekItem-alike)))
 
   -- one of several kinds
-  cons-two : (m : Manner) (k : Kind) (ks : List Kind) → Local Stop placedMoves u false false 2 (itemOf m k) (itemOf m k) → Local Stop (step-moves placedMoves) u false false 2 (itemIn m ks) (itemIn m ks) → Local Stop (step-moves placedMoves) u false false 2 (itemIn m (k ∷ ks)) (itemIn m (k ∷ ks))
+  cons-two : (m : Manner) (k : Kind) (ks : List Kind) → Local Stop placedMoves u false false 2 (itemOf m k) (itemOf m k) →
+      Local Stop (step-moves placedMoves) u false false 2 (itemIn m ks) (itemIn m ks) → Local Stop (step-moves placedMoves) u false false 2 (itemIn m (k ∷ ks)) (itemIn m (k ∷ ks))
   unfolding itemIn
   cons-two m k ks M N =
       let f : Placed → Reader (Placed × Kind) = λ a. pure (a, k) in
@@ -121,7 +127,8 @@ module _ {u : List ℕ} where
   more-two m Colon = must-local (bind-local blank-local (λ _. itemFrom-local m small))
   more-two m (After k) =
       or-local (bind-local comma-local (λ _. must-local (itemFrom-local m (listed k))))
-      (or-local (bind-local {k = 1} {l = 1} (loose (bind-local {k = 0} (only-local (isWide k)) (λ _. byte-local 58 refl refl)) (omega arith)) (λ _. afterColon-local m)) (bind-local blank-local (λ _. itemFrom-local m (following k))))
+      (or-local (bind-local {k = 1} {l = 1} (loose (bind-local {k = 0} (only-local (isWide k)) (λ _. byte-local 58 refl refl)) (omega arith)) (λ _. afterColon-local m))
+      (bind-local blank-local (λ _. itemFrom-local m (following k))))
 
 -- ---- a rule takes its records' bytes
 
@@ -149,9 +156,9 @@ module _ (m : Manner) (s : List ℕ) where
   Items i r j = (r .0 .items ≡ length (r .1)) × (i + length (r .1) * 2 ≤ j)
 
   rule-items : (separator i : ℕ) → Upto (Items i) (rule m separator s i)
-  unfolding rule behind chain
+  unfolding rule afterOpening chain
   rule-items separator i =
-      upto-then (Items i) s i (behind m i separator) (opening s i) (λ o j e.
+      upto-then (Items i) s i (afterOpening m i separator) (opening s i) (λ o j e.
       let all = chainIn (suc (length s)) (more m) end (o .stage) s j in
       upto-map (Items i) s j (ruleOf i separator (o .comment)) all
       (upto-less (Pieces j) (λ r k. Items i (ruleOf i separator (o .comment) r) k) (λ r k h. (refl, omega (arith, h, past opening-local e .moves))) all (pieces-in (suc (length s)) (o .stage) j)))

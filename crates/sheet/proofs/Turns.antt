@@ -36,7 +36,7 @@ use Rattle.sheet.proofs.Fills.{map-same}
 
 -- ---- records
 
--- a rule's records, and those behind them
+-- a rule's records, and those after them
 pub records-more : (r : Rule) (l : List Rule) → length (records (r ∷ l)) ≡ suc (length (r .1)) + length (records l)
 unfolding records
 records-more r l = length-append (ruleRecords r) (records l) ∙ ap (λ n. suc n + length (records l)) (length-map (r .1) itemRecord)
@@ -128,7 +128,8 @@ pub record Turned (m : Manner) (t t′ : Tables) (slot separator : ℕ) (s : Lis
 
 module _ (m : Manner) (t t′ : Tables) (slot separator : ℕ) (s : List ℕ) (i : ℕ) where
   -- what was found is a rule
-  pub turned : {items k : ℕ} {broken : Break} {n : Next} → map (both (kept m t slot)) (moreRules m (Another separator)) s i ≡ got (((items, broken), t′), n) k → Turned m t t′ slot separator s i items broken n k
+  pub turned : {items k : ℕ} {broken : Break} {n : Next} → map (both (kept m t slot)) (moreRules m (Another separator)) s i ≡ got (((items, broken), t′), n) k →
+      Turned m t t′ slot separator s i items broken n k
   turned {items} {k} {broken} {n} = go (moreRules m (Another separator) s i) refl (takes m (Another separator) s i) (more-takes m separator s i)
     where
       go : (q : Read (Rule × Next)) → moreRules m (Another separator) s i ≡ q → Ends (λ j. (i < j) × (j ≤ length s)) q → Upto (λ x k. i + suc (length (x .0 .1)) ≤ k) q →
@@ -169,10 +170,11 @@ abbrev pub keeping : Manner → Tables → ℕ → Break → Next → Reader (�
 keeping m t slot broken x = chain (moreRules m) noMore x >>= counted m t slot broken
 
 module _ (m : Manner) (t t′ : Tables) (slot separator : ℕ) (s : List ℕ) (i : ℕ) where
-  -- records behind a rule's
-  behind-rule : (first : Break) {items k : ℕ} {broken : Break} {n : Next} (x : Turned m t t′ slot separator s i items broken n k) (l : List Rule × Unit {0}) → counted m t slot first (before (x .rule) l) ≡ counted m t′ (slot + (items + 1)) (firstOf first broken) l
+  -- records after a rule's
+  after-rule : (first : Break) {items k : ℕ} {broken : Break} {n : Next} (x : Turned m t t′ slot separator s i items broken n k) (l : List Rule × Unit {0}) →
+      counted m t slot first (before (x .rule) l) ≡ counted m t′ (slot + (items + 1)) (firstOf first broken) l
   unfolding records rulesBreak
-  behind-rule first {items} {k} {broken} x l =
+  after-rule first {items} {k} {broken} x l =
       let e : slot + length (ruleRecords (x .rule)) ≡ slot + (items + 1) = omega (arith, length-map (x .rule .1) itemRecord, x .size) in
       let q : slot + length (records (x .rule ∷ l .0)) ≡ slot + (items + 1) + length (records (l .0)) = omega (arith, records-more (x .rule) (l .0), x .size) in
       let b : firstOf first (judgedBy m (rulesBreak (x .rule ∷ l .0))) ≡ firstOf (firstOf first broken) (judgedBy m (rulesBreak (l .0))) =
@@ -181,26 +183,30 @@ module _ (m : Manner) (t t′ : Tables) (slot separator : ℕ) (s : List ℕ) (i
       rw (q, all-append (ruleRecords (x .rule)) (records (l .0)) t slot, e, ← x .all, b)
 
   -- by a rule more
-  keeping-more : (first : Break) {items k q : ℕ} {broken : Break} → Turned m t t′ slot separator s i items broken (Another q) k → keeping m t slot first (Another separator) s i ≡ keeping m t′ (slot + (items + 1)) (firstOf first broken) (Another q) s k
+  keeping-more : (first : Break) {items k q : ℕ} {broken : Break} → Turned m t t′ slot separator s i items broken (Another q) k →
+      keeping m t slot first (Another separator) s i ≡ keeping m t′ (slot + (items + 1)) (firstOf first broken) (Another q) s k
   keeping-more first {items} {k} {q} {broken} x =
       rw (rules-are m (Another separator) s i, x .is)
       (go (chain (moreRules m) noMore (Another q) s k))
     where
-      go : (r : Read (List Rule × Unit {0})) → follow s i (follow s k r (λ l. pure (before (x .rule) l)) nothing) (counted m t slot first) nothing ≡ follow s k r (counted m t′ (slot + (items + 1)) (firstOf first broken)) nothing
-      go (got l j) = ap (λ (f : Reader (ℕ × Tables)). f s j) (behind-rule first x l)
+      go : (r : Read (List Rule × Unit {0})) → follow s i (follow s k r (λ l. pure (before (x .rule) l)) nothing) (counted m t slot first) nothing ≡ follow s k r
+          (counted m t′ (slot + (items + 1)) (firstOf first broken)) nothing
+      go (got l j) = ap (λ (f : Reader (ℕ × Tables)). f s j) (after-rule first x l)
       go none = refl
       go (refused e p) = refl
 
   -- by the last
   all-end : {items k : ℕ} {broken : Break} (x : Turned m t t′ slot separator s i items broken Finished k) → chain (moreRules m) noMore (Another separator) s i ≡ got (x .rule ∷ [], tt) k
   unfolding moreRules noMore
-  all-end {items} {k} {broken} x = rules-are m (Another separator) s i ∙ ap (λ (r : Read (Rule × Next)). follow s i r (λ c. map (before (c .0)) (chain (moreRules m) noMore (c .1))) nothing) (x .is) ∙ rw (rules-are m Finished s k)
+  all-end {items} {k} {broken} x = rules-are m (Another separator) s i
+      ∙ ap (λ (r : Read (Rule × Next)). follow s i r (λ c. map (before (c .0)) (chain (moreRules m) noMore (c .1))) nothing) (x .is) ∙ rw (rules-are m Finished s k)
 
-  keeping-end : (first : Break) {items k : ℕ} {broken : Break} → Turned m t t′ slot separator s i items broken Finished k → keeping m t slot first (Another separator) s i ≡ unbroken (slot + (items + 1), t′) (firstOf first broken) s k
+  keeping-end : (first : Break) {items k : ℕ} {broken : Break} → Turned m t t′ slot separator s i items broken Finished k →
+      keeping m t slot first (Another separator) s i ≡ unbroken (slot + (items + 1), t′) (firstOf first broken) s k
   unfolding records allKept rulesBreak
   keeping-end first {items} {k} {broken} x =
       ap (λ (r : Read (List Rule × Unit {0})). follow s i r (counted m t slot first) nothing) (all-end x)
-      ∙ ap (λ (f : Reader (ℕ × Tables)). f s k) (behind-rule first x ([], tt))
+      ∙ ap (λ (f : Reader (ℕ × Tables)). f s k) (after-rule first x ([], tt))
       ∙ ap (λ (n : ℕ). unbroken (n, t′) (firstOf (firstOf first broken) (judgedBy m Nowhere)) s k) (add-zero (slot + (items + 1)))
       ∙ ap (λ (b : Break). unbroken (slot + (items + 1), t′) b s k) (ap (firstOf (firstOf first broken)) (judged-none m) ∙ first-none (firstOf first broken))
 
@@ -235,14 +241,16 @@ filling-begin m s p t =
     judged l j Nowhere = rw (zero-add (length (records (l .0))))
     judged l j (At k q) = refl
 
-    go : (r : Read (List Rule × Unit {0})) → follow s p (follow s p r (λ l. unbroken l (judgedBy m (rulesBreak (l .0)))) nothing) (λ l. pure (value l)) nothing ≡ follow s p r (counted m t 0 Nowhere) nothing
+    go : (r : Read (List Rule × Unit {0})) → follow s p (follow s p r (λ l. unbroken l (judgedBy m (rulesBreak (l .0)))) nothing) (λ l. pure
+        (value l)) nothing ≡ follow s p r (counted m t 0 Nowhere) nothing
     go (got l j) = judged l j (judgedBy m (rulesBreak (l .0)))
     go none = refl
     go (refused k q) = refl
 
 module _ (m : Manner) (s : List ℕ) (p : ℕ) (t table table′ : Tables) (slot i separator : ℕ) (first : Break) (f : Filling m s p t table slot i separator first) where
   -- a rule more
-  pub filling-more : {items k q : ℕ} {broken : Break} → length s ≤ 4096 → length (table′ .0) ≡ length (table .0) → length (table′ .1) ≡ length (table .1) → Turned m table table′ slot separator s i items broken (Another q) k →
+  pub filling-more : {items k q : ℕ} {broken : Break} → length s ≤ 4096 → length (table′ .0) ≡ length (table .0) → length (table′ .1) ≡ length (table .1) →
+      Turned m table table′ slot separator s i items broken (Another q) k →
       Filling m s p t table′ (slot + (items + 1)) k q (firstOf first broken)
   filling-more small a b x =
       record {
@@ -254,7 +262,8 @@ module _ (m : Manner) (s : List ℕ) (p : ℕ) (t table table′ : Tables) (slot
       }
 
   -- the last rule
-  pub filling-end : {items k : ℕ} {broken : Break} → Turned m table table′ slot separator s i items broken Finished k → rulesInto m t s p ≡ unbroken (slot + (items + 1), table′) (firstOf first broken) s k
+  pub filling-end : {items k : ℕ} {broken : Break} → Turned m table table′ slot separator s i items broken Finished k →
+      rulesInto m t s p ≡ unbroken (slot + (items + 1), table′) (firstOf first broken) s k
   filling-end x = f .reads ∙ keeping-end m table table′ slot separator s i first x
 
   -- a refusal

@@ -30,7 +30,8 @@ word-from : (s : List ℕ) (i : ℕ) → i ≤ length s → word s i ≡ moved k
 word-from s i h =
     let k : length (take i s) + 0 ≡ i = (let e : length (take i s) ≡ i = length-take-le i s h in omega arith) in
     let whole : take i s ++ (drop i s ++ []) ≡ s = ap (λ t. take i s ++ t) (append-nil (drop i s)) ∙ take-append-drop i s in
-    ap (λ t. word t i) (sym whole) ∙ ap (word (take i s ++ (drop i s ++ []))) (sym k) ∙ word-local {u = take i s} .same (drop i s) [] 0 stop-end tt ∙ ap (λ n. moved keep n (word (drop i s) 0)) (length-take-le i s h)
+    ap (λ t. word t i) (sym whole) ∙ ap (word (take i s ++ (drop i s ++ []))) (sym k) ∙ word-local {u = take i s} .same (drop i s) [] 0 stop-end tt
+    ∙ ap (λ n. moved keep n (word (drop i s) 0)) (length-take-le i s h)
 
 -- a name that is found calls for a warning as it is spelt
 pub calls-got : (s : List ℕ) (i : ℕ) {w : Word} {e : ℕ} → i ≤ length s → word s i ≡ got w e → warns (w .0) (spelt (take (e - i) (drop i s))) ≡ calls (drop i s) (word (drop i s) 0)
@@ -55,8 +56,10 @@ pub at-most : (w : Bool) → (if w then 1 else 0) ≤ 1
 at-most true = omega arith
 at-most false = omega arith
 
--- the warnings from a place on: the one there, and those behind
-warnings-next : (inside letter : Bool) (s : List ℕ) (i : ℕ) → i < length s → warningsIn inside letter (drop i s) ≡ (if warned inside letter (drop i s) (getD s i 0) then 1 else 0) + warningsIn (flips (getD s i 0) inside) (isLetter (getD s i 0)) (drop (i + 1) s)
+-- the warnings from a place on: the one there, and those after
+warnings-next : (inside letter : Bool) (s : List ℕ) (i : ℕ) → i < length s →
+    warningsIn inside letter (drop i s) ≡ (if warned inside letter (drop i s) (getD s i 0) then 1 else 0) + warningsIn (flips (getD s i 0) inside) (isLetter
+    (getD s i 0)) (drop (i + 1) s)
 unfolding warningsIn
 warnings-next inside letter s i h = rw (drop-cons s i 0 h, add-one i)
 
@@ -99,7 +102,8 @@ module _ (s : List ℕ) (i : ℕ) (h : i < length s) where
   letter-over e = warnings-next false true s i h ∙ sym (warnings-next false false s i h ∙ (rw (e)))
 
   -- a letter after none: the warning there, and those after the letter
-  pub warnings-word : {w : Bool} → isLetter (getD s i 0) ≡ true → w ≡ calls (drop i s) (word (drop i s) 0) → warningsIn false false (drop i s) ≡ (if w then 1 else 0) + warningsIn false true (drop (i + 1) s)
+  pub warnings-word : {w : Bool} → isLetter (getD s i 0) ≡ true → w ≡ calls (drop i s) (word (drop i s) 0) →
+      warningsIn false false (drop i s) ≡ (if w then 1 else 0) + warningsIn false true (drop (i + 1) s)
   warnings-word e q = warnings-next false false s i h ∙ rw (q, no-quote (getD s i 0) e, e)
 
   -- no letter and no quote: no warning there
@@ -161,7 +165,8 @@ small-more s (suc n) i j h k = go (λ m. small-more s n (suc i) j (omega arith) 
     same : got (tt {0}) i ≡ got tt j → warningsIn false true (drop i s) ≡ warningsIn false true (drop j s)
     same r = let q : i ≡ j = cc in ap (λ m. warningsIn false true (drop m s)) q
 
-    go : (SmallTo s (suc i) j → warningsIn false true (drop (suc i) s) ≡ warningsIn false true (drop j s)) → Dec (i < length s) → (t : Bool) → within 97 122 (getD s i 0) ≡ t → warningsIn false true (drop i s) ≡ warningsIn false true (drop j s)
+    go : (SmallTo s (suc i) j → warningsIn false true (drop (suc i) s) ≡ warningsIn false true (drop j s)) → Dec (i < length s) → (t : Bool) →
+        within 97 122 (getD s i 0) ≡ t → warningsIn false true (drop i s) ≡ warningsIn false true (drop j s)
     go f (yes q) true e = letter-more s i q (rw (e, or-true (within 65 90 (getD s i 0)))) ∙ rw (add-one i) (f (sym (skip-more (within 97 122) s i q e) ∙ k))
     go f (yes q) false e = same (sym (skip-stop (within 97 122) s i q e) ∙ k)
     go f (no q) t e = same (sym (skip-end (within 97 122) s i (omega arith)) ∙ k)

@@ -1,4 +1,4 @@
--- The caller names an edition of the rules by its number.
+-- The caller names an edition of the rules by its number (docs/RULES.md, 8).
 use Prim.Native.Nat.{ℕ}
 use mathlib.Core.List.{List}
 use lib.Dec.{eqb}

@@ -1,4 +1,4 @@
--- The records of a rule: the words of its head, and of its items.
+-- The records of a rule: the words of its head, and of its items (docs/RULES.md, 5).
 use mathlib.Core.List.{List, [], _∷_}
 use lib.IntN.{ℤ, pos}
 use Rattle.records.specs.Words.{record16, wordsOf, placedAt}

@@ -1,4 +1,4 @@
--- House sheets: the rules of the first edition, judged by the house profile besides.
+-- House sheets: the rules of the first edition, judged by the house profile besides (docs/RULES.md, 9).
 use Prim.Native.Nat.{ℕ}
 use mathlib.Core.List.{List}
 use lib.IntN.{ℤ}

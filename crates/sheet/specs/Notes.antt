@@ -1,4 +1,4 @@
--- The note shown for a rule: the lent bytes, no copy.
+-- The note shown for a rule: the lent bytes, no copy (docs/RULES.md, 6).
 use Prim.Native.Nat.{ℕ, _+_, _-_}
 use mathlib.Core.List.{List}
 use mathlib.Core.Bool.{Bool, true, false}
@@ -36,6 +36,6 @@ bytesOf sheet note (false, x) = (note, x)
 abbrev pub noteOf : Bytes → Bytes → ℤ → ℤ → Bytes × (ℕ × ℕ)
 noteOf sheet note a n = bytesOf sheet note (notePart (length (now sheet)) (length (now note)) a n)
 
--- bytes that are the part of x from a to e: they stand in x, a bytes behind its start, and are its bytes up to e
+-- bytes that are the part of x from a to e: they stand in x, a bytes after its start, and are its bytes up to e
 abbrev pub Part : Bytes × (ℕ × ℕ) → ℕ × ℕ → List ℕ → Type 0
 Part (x, (a, e)) place bytes = (place ≡ (ptr x .0, ptr x .1 + a)) × (bytes ≡ take (e - a) (drop a (now x)))

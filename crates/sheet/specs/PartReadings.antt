@@ -1,4 +1,4 @@
--- Reading a part.
+-- Reading a part (docs/RULES.md, 6).
 use Prim.Native.Nat.{ℕ, suc}
 use mathlib.Core.List.{List, []}
 use mathlib.Core.Bool.{Bool, true, false, not}
@@ -19,7 +19,7 @@ use Rattle.sheet.specs.declared.PartAnswer.{PartAnswer}
 abbrev pub partAnswerOf : Answer → ℕ → Bool → PartAnswer
 partAnswerOf a next last = record { number = a.number; place = a.place; records = a.records; warnings = a.warnings; next = next; last = last }
 
--- the next part begins behind the `;` that ends this one; the last has none, and next is 0
+-- the next part begins after the `;` that ends this one; the last has none, and next is 0
 unfoldable pub withNext : List ℕ → ℕ → Answer → PartAnswer
 withNext s e a = if ltb e (length s) then partAnswerOf a (suc e) false else partAnswerOf a 0 true
 

@@ -1,4 +1,4 @@
--- Parts: a quote flips inside and outside, a part ends at a `;` outside.
+-- Parts: a quote flips inside and outside, a part ends at a `;` outside (docs/RULES.md, 6).
 use Prim.Native.Nat.{ℕ, zero, suc, _+_}
 use mathlib.Core.List.{List, [], _∷_, _++_}
 use mathlib.Core.Bool.{Bool, true, false, _&&_, not}
@@ -12,7 +12,7 @@ unfoldable pub partIn : Bool → List ℕ → ℕ
 partIn inside [] = 0
 partIn inside (b ∷ s) = if eqb b 59 && not inside then 0 else suc (partIn (flips b inside) s)
 
--- whether a place is a part's beginning: the sheet's, or behind a `;` outside
+-- whether a place is a part's beginning: the sheet's, or after a `;` outside
 unfoldable pub begins : List ℕ → ℕ → Bool
 begins s zero = true
 begins s (suc i) = eqb (getD s i 0) 59 && not (insideOf (take i s))

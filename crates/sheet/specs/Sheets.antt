@@ -1,4 +1,4 @@
--- Reading a text, and a sheet.
+-- Reading a text, and a sheet (docs/RULES.md, 6).
 use Prim.Native.Nat.{ℕ, _*_, _/_}
 use mathlib.Core.List.{List, []}
 use lib.Dec.{ltb}

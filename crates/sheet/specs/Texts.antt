@@ -1,4 +1,4 @@
--- The rules of a text, left to right, and their records.
+-- The rules of a text, left to right, and their records (docs/RULES.md, 1).
 use Prim.Native.Nat.{ℕ}
 use mathlib.Core.List.{List, [], _∷_, _++_, map}
 use lib.IntN.{ℤ}

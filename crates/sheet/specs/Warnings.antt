@@ -1,4 +1,4 @@
--- Warnings: a pass of its own over a text that is accepted.
+-- Warnings: a pass of its own over a text that is accepted (docs/RULES.md, 3).
 -- It counts the names that the reading met: the reading takes the longest name where letters begin, and letters directly after a name or an item refuse the
 -- text; so outside quotes each run of letters in an accepted text is one name. This is a reason and not a proof (docs/DECISIONS.md, 41).
 use Prim.Native.Nat.{ℕ, _+_}
@@ -25,7 +25,7 @@ calls s (refused k p) = false
 abbrev pub warned : Bool → Bool → List ℕ → ℕ → Bool
 warned inside letter s b = not inside && not letter && isLetter b && calls s (word s 0)
 
--- the warnings of a text that begins inside quotes or not, behind a letter or not
+-- the warnings of a text that begins inside quotes or not, after a letter or not
 unfoldable pub warningsIn : Bool → Bool → List ℕ → ℕ
 warningsIn inside letter [] = 0
 warningsIn inside letter (b ∷ s) = (if warned inside letter (b ∷ s) b then 1 else 0) + warningsIn (flips b inside) (isLetter b) s

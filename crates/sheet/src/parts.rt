@@ -26,7 +26,7 @@ fn inside_of(s: &[u8], i: usize) -> bool
     inside
 }
 
-// Whether a place is a part's beginning: the sheet's, or behind a `;` outside.
+// Whether a place is a part's beginning: the sheet's, or after a `;` outside.
 pub fn begins(s: &[u8], place: usize) -> bool
     ensures { λ r. ⌜ r ≡ parts.begins (now (s .entry)) place ⌝ }
 {

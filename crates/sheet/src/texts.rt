@@ -62,10 +62,10 @@ pub fn fill_rules(s: &[u8], m: Manner, p: usize, words: &mut [i32], bytes: &mut 
         let c = Cursor { at }.blanks(s);
         let r = parted(s, fill_rule(s, m, c, separator, words, bytes, slot));
         match r {
-            Parted::Got(items, first, behind, d) => {
+            Parted::Got(items, first, after, d) => {
                 slot += items + 1;
                 broken = first_of(broken, first);
-                let Next::Another(k) = behind else {
+                let Next::Another(k) = after else {
                     return counted(slot, broken, d);
                 };
                 separator = k;

@@ -12,8 +12,8 @@ use Rattle.names.proofs.Cut.{byte-local, hour-local, minute-local, minutes-loca
 use Rattle.names.proofs.NameCut.{name-local}
 use Rattle.records.proofs.Cut.{Alike, Refuses, refuses-if, item-alike}
 use Rattle.records.specs.declared.Meant.the-variants.{Refused}
-use Rattle.times.specs.Times.{clock, moved, movedEvent, rawTime}
-use Rattle.times.specs.Spans.{repeated, tail, untilTime, spanBehind, spanShape, timeItem}
+use Rattle.times.specs.Times.{clock, withOffset, eventWithOffset, rawTime}
+use Rattle.times.specs.Spans.{repeated, tail, untilTime, spanAfter, spanShape, timeItem}
 use Rattle.times.specs.Meanings.{goodSpan, spanOf, spanMeaning}
 use Rattle.times.specs.declared.RawTime.{RawTime}
 use Rattle.times.specs.Shapes.{RawSpan, Alone, Open, Until}
@@ -23,21 +23,21 @@ module _ {u : List ℕ} where
   unfolding clock
   clock-alike = then-local hour-local (λ h. then-local (free (byte-local 58 refl refl)) (λ _. then-local (free minute-local) (λ m. pure-local _)))
 
-  pub moved-alike : (e : ℕ) → Alike u 1 (moved e)
-  unfolding moved
-  moved-alike e =
+  pub withOffset-alike : (e : ℕ) → Alike u 1 (withOffset e)
+  unfolding withOffset
+  withOffset-alike e =
       or-local (then-local (byte-local 43 refl refl) (λ _. then-local (free clock-alike) (λ c. pure-local _)))
       (then-local (byte-local 45 refl refl) (λ _. then-local (free clock-alike) (λ c. pure-local _)))
 
-  pub movedEvent-alike : Alike u 1 movedEvent
-  unfolding movedEvent
-  movedEvent-alike =
+  pub eventWithOffset-alike : Alike u 1 eventWithOffset
+  unfolding eventWithOffset
+  eventWithOffset-alike =
       then-local (byte-local 40 refl refl) (λ _. then-local (free (name-local event)) (λ e.
-      then-local (free (moved-alike e)) (λ t. then-local (free (byte-local 41 refl refl)) (λ _. pure-local t))))
+      then-local (free (withOffset-alike e)) (λ t. then-local (free (byte-local 41 refl refl)) (λ _. pure-local t))))
 
   pub rawTime-alike : Alike u 1 rawTime
   unfolding rawTime
-  rawTime-alike = or-local (then-local clock-alike (λ c. pure-local _)) (or-local (then-local (name-local event) (λ e. pure-local _)) movedEvent-alike)
+  rawTime-alike = or-local (then-local clock-alike (λ c. pure-local _)) (or-local (then-local (name-local event) (λ e. pure-local _)) eventWithOffset-alike)
 
   pub repeated-alike : Alike u 1 repeated
   unfolding repeated
@@ -53,13 +53,13 @@ module _ {u : List ℕ} where
   unfolding untilTime
   untilTime-alike start = then-local (byte-local 45 refl refl) (λ _. then-local (free rawTime-alike) (λ end. then-local tail-alike (λ t. pure-local _)))
 
-  pub spanBehind-alike : (start : RawTime) → Alike u 0 (spanBehind start)
-  unfolding spanBehind
-  spanBehind-alike start = or-local (free (then-local (byte-local 43 refl refl) (λ _. pure-local _))) (or-local (free (untilTime-alike start)) (pure-local _))
+  pub spanAfter-alike : (start : RawTime) → Alike u 0 (spanAfter start)
+  unfolding spanAfter
+  spanAfter-alike start = or-local (free (then-local (byte-local 43 refl refl) (λ _. pure-local _))) (or-local (free (untilTime-alike start)) (pure-local _))
 
   pub spanShape-alike : Alike u 1 spanShape
   unfolding spanShape
-  spanShape-alike = then-local rawTime-alike spanBehind-alike
+  spanShape-alike = then-local rawTime-alike spanAfter-alike
 
 -- a span's refusals have numbers
 pub meaning-refuses : (m : Manner) (r : RawSpan) → Refuses (spanMeaning m r)

@@ -8,7 +8,7 @@ use Rattle.names.specs.Tests.{within}
 use Rattle.names.specs.Read.{Read, got, none, refused, one, ahead}
 use Rattle.names.specs.Chain.{chainIn, chain, many, skip}
 use Rattle.names.specs.Texts.{bytes, byte, allOf}
-use Rattle.names.specs.Numbers.{isDigit, digit, upTo, digits, clockBehind, number}
+use Rattle.names.specs.Numbers.{isDigit, digit, upTo, digits, clockAfter, number}
 use Rattle.names.specs.declared.Manner.the-variants.{First, Second}
 use Rattle.names.specs.Names.{names, spelledSo, lower, letter, firstOf, word, name}
 use Rattle.records.specs.Items.{signed}
@@ -18,17 +18,17 @@ use Rattle.records.specs.declared.Time.{Time}
 use Rattle.records.specs.declared.Time.the-variants.{Fixed, Dawn, Sunrise, Sunset, Dusk}
 use Rattle.records.specs.declared.Repeat.{Repeat}
 use Rattle.records.specs.declared.Repeat.the-variants.{Never, Every}
-use Rattle.times.specs.Times.{clock, moved, movedEvent, rawTime}
-use Rattle.times.specs.Spans.{repeated, tail, untilTime, spanBehind, spanShape, timeItem}
+use Rattle.times.specs.Times.{clock, withOffset, eventWithOffset, rawTime}
+use Rattle.times.specs.Spans.{repeated, tail, untilTime, spanAfter, spanShape, timeItem}
 use Rattle.times.specs.Meanings.{eventOf, dayClock, endClock, repeatClock, spanMeaning}
 
 -- a span of times
 span : Time → Time → Repeat → Bool → Item
-span start end repeats plus = Times (record { start = start; end = end; repeats = repeats; plus = plus; point = false })
+span start end repeats «open_end» = Times (record { start = start; end = end; repeats = repeats; «open_end» = «open_end»; point = false })
 
 -- a time alone
 point : Time → Item
-point t = Times (record { start = t; end = t; repeats = Never; plus = false; point = true })
+point t = Times (record { start = t; end = t; repeats = Never; «open_end» = false; point = true })
 
 -- a text, a place in it, and what is read there: 4 before 8, and spans are not reordered
 spans : List (String × (ℕ × Read Item))
@@ -56,8 +56,8 @@ spans =
     ∷ []
 
 spans-right : map (λ e. timeItem First (bytes (e .0)) (e .1 .0)) spans ≡ map (λ e. e .1 .1) spans
-unfolding spans span timeItem spanShape spanBehind untilTime tail repeated rawTime movedEvent moved clock eventOf spanMeaning dayClock endClock repeatClock
-    number digits upTo digit isDigit within clockBehind skip many chain chainIn byte one ahead name word firstOf names allOf letter spelledSo lower
+unfolding spans span timeItem spanShape spanAfter untilTime tail repeated rawTime eventWithOffset withOffset clock eventOf spanMeaning dayClock endClock repeatClock
+    number digits upTo digit isDigit within clockAfter skip many chain chainIn byte one ahead name word firstOf names allOf letter spelledSo lower
 spans-right = refl
 
 -- the second edition: a time alone, a span written out that is none, and what a time alone does not have
@@ -72,6 +72,6 @@ points =
     ∷ []
 
 points-right : map (λ e. timeItem Second (bytes (e .0)) 0) points ≡ map (λ e. e .1) points
-unfolding points point span timeItem spanShape spanBehind untilTime tail repeated rawTime movedEvent moved clock eventOf spanMeaning dayClock endClock repeatClock
-    number digits upTo digit isDigit within clockBehind skip many chain chainIn byte one ahead name word firstOf names allOf letter spelledSo lower
+unfolding points point span timeItem spanShape spanAfter untilTime tail repeated rawTime eventWithOffset withOffset clock eventOf spanMeaning dayClock endClock repeatClock
+    number digits upTo digit isDigit within clockAfter skip many chain chainIn byte one ahead name word firstOf names allOf letter spelledSo lower
 points-right = refl

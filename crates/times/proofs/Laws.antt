@@ -10,7 +10,7 @@ use lib.ListN.{getD}
 use Rattle.names.specs.Read.{Read, got, none, refused, follow, nothing, pure, one}
 use Rattle.names.specs.Texts.{byte}
 use Rattle.names.proofs.Laws.{or-none}
-use Rattle.times.specs.Times.{clock, sunOf, moved}
+use Rattle.times.specs.Times.{clock, sunOf, withOffset}
 use Rattle.times.specs.declared.Clock.{Clock}
 use Rattle.times.specs.declared.RawTime.the-variants.{Sun}
 
@@ -24,17 +24,17 @@ sign-alone b d s i n p = go (eqb b (getD s i 0)) refl
     go false e = let f : byte b s i ≡ none = rw (e, and-false) in cc
 
 -- a clock time that is added to an event, or taken off
-sun-is : (e : ℕ) (less : Bool) (s : List ℕ) (j : ℕ) (r : Read Clock) → follow s j r (λ c. pure (Sun e less c)) nothing ≡ sunOf e less r
-sun-is e less s j (got c k) = refl
-sun-is e less s j none = refl
-sun-is e less s j (refused k p) = refl
+sun-is : (e : ℕ) (negative : Bool) (s : List ℕ) (j : ℕ) (r : Read Clock) → follow s j r (λ c. pure (Sun e negative c)) nothing ≡ sunOf e negative r
+sun-is e negative s j (got c k) = refl
+sun-is e negative s j none = refl
+sun-is e negative s j (refused k p) = refl
 
--- behind a plus
-pub moved-plus : (e : ℕ) (s : List ℕ) (i : ℕ) {j : ℕ} → byte 43 s i ≡ got tt j → moved e s i ≡ sunOf e false (clock s j)
-unfolding moved
-moved-plus e s i {j} p = rw (p, sun-is e false s j (clock s j)) (or-none s i _ _ (rw (sign-alone 43 45 s i (λ q. omega arith) p)))
+-- after a plus
+pub withOffset-plus : (e : ℕ) (s : List ℕ) (i : ℕ) {j : ℕ} → byte 43 s i ≡ got tt j → withOffset e s i ≡ sunOf e false (clock s j)
+unfolding withOffset
+withOffset-plus e s i {j} p = rw (p, sun-is e false s j (clock s j)) (or-none s i _ _ (rw (sign-alone 43 45 s i (λ q. omega arith) p)))
 
--- behind a minus
-pub moved-minus : (e : ℕ) (s : List ℕ) (i : ℕ) {j : ℕ} → byte 43 s i ≡ none → byte 45 s i ≡ got tt j → moved e s i ≡ sunOf e true (clock s j)
-unfolding moved
-moved-minus e s i {j} p q = rw (p, q) (sun-is e true s j (clock s j))
+-- after a minus
+pub withOffset-minus : (e : ℕ) (s : List ℕ) (i : ℕ) {j : ℕ} → byte 43 s i ≡ none → byte 45 s i ≡ got tt j → withOffset e s i ≡ sunOf e true (clock s j)
+unfolding withOffset
+withOffset-minus e s i {j} p q = rw (p, q) (sun-is e true s j (clock s j))

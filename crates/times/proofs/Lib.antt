@@ -1,4 +1,4 @@
 pub mod Laws
 pub mod Cut
-pub mod Apart
+pub mod OneAnswer
 pub mod Examples

@@ -1,4 +1,4 @@
--- Ranges: MM 0 to 59; hour 0 to 23 with 24:00 besides; as a span's end 0:00 to 48:00. `/24:00` is out of range.
+-- Ranges: MM 0 to 59; hour 0 to 23 with 24:00 besides; as a span's end 0:00 to 48:00. `/24:00` is out of range (docs/RULES.md, 4).
 -- `10:00+` ends at 24:00, open. Spans are not reordered. A time alone is refused as 8, but for the second edition, where it ends where it starts.
 use Prim.Native.Nat.{ℕ, _+_, _*_}
 use mathlib.Core.Bool.{Bool, true, false, _&&_, _||_, not}
@@ -42,12 +42,12 @@ repeatClock c = leb c.minute 59 && leb c.hour 23
 -- a start in range
 abbrev pub goodStart : RawTime → Bool
 goodStart (Fixed c) = dayClock c
-goodStart (Sun e less c) = dayClock c
+goodStart (Sun e negative c) = dayClock c
 
 -- an end in range
 abbrev pub goodEnd : RawTime → Bool
 goodEnd (Fixed c) = endClock c
-goodEnd (Sun e less c) = dayClock c
+goodEnd (Sun e negative c) = dayClock c
 
 -- a tail in range
 abbrev pub goodTail : RawTail → Bool
@@ -69,7 +69,7 @@ eventOf e m = if eqb e 1 then time.Dawn m else if eqb e 2 then time.Sunrise m el
 -- a clock time in minutes, or an event with minutes added or taken off
 abbrev pub timeOf : RawTime → Time
 timeOf (Fixed c) = time.Fixed (minutesOf c)
-timeOf (Sun e less c) = eventOf e (signed less (minutesOf c))
+timeOf (Sun e negative c) = eventOf e (signed negative (minutesOf c))
 
 -- the repeat
 abbrev pub repeatOf : RawTail → Repeat
@@ -79,23 +79,23 @@ repeatOf (Minutes m) = Every m
 repeatOf (Hours c) = Every (minutesOf c)
 
 -- whether the end is open
-abbrev pub plusOf : RawTail → Bool
-plusOf Nothing = false
-plusOf Plus = true
-plusOf (Minutes m) = false
-plusOf (Hours c) = false
+abbrev pub openEndOf : RawTail → Bool
+openEndOf Nothing = false
+openEndOf Plus = true
+openEndOf (Minutes m) = false
+openEndOf (Hours c) = false
 
 -- what a time alone is: a point in time, refused by the first edition and in a house sheet, a span that ends where it starts in the second edition
 abbrev pub aloneOf : Manner → RawTime → Meant
 aloneOf First t = Refused pointInTime
 aloneOf House t = Refused pointInTime
-aloneOf Second t = Is (Times (record { start = timeOf t; end = timeOf t; repeats = Never; plus = false; point = true }))
+aloneOf Second t = Is (Times (record { start = timeOf t; end = timeOf t; repeats = Never; «open_end» = false; point = true }))
 
 -- what a span in range is
 abbrev pub spanOf : Manner → RawSpan → Meant
 spanOf m (Alone t) = aloneOf m t
-spanOf m (Open t) = Is (Times (record { start = timeOf t; end = time.Fixed 1440; repeats = Never; plus = true; point = false }))
-spanOf m (Until a b t) = Is (Times (record { start = timeOf a; end = timeOf b; repeats = repeatOf t; plus = plusOf t; point = false }))
+spanOf m (Open t) = Is (Times (record { start = timeOf t; end = time.Fixed 1440; repeats = Never; «open_end» = true; point = false }))
+spanOf m (Until a b t) = Is (Times (record { start = timeOf a; end = timeOf b; repeats = repeatOf t; «open_end» = openEndOf t; point = false }))
 
 -- the meaning: 4, then 8
 unfoldable pub spanMeaning : Manner → RawSpan → Meant

@@ -1,4 +1,4 @@
--- Time: `H:MM`, or an event (`dawn`, `sunrise`, `sunset`, `dusk`), or `(event±H:MM)`.
+-- Time: `H:MM`, or an event (`dawn`, `sunrise`, `sunset`, `dusk`), or `(event±H:MM)` (docs/RULES.md, 2).
 use Prim.Native.Nat.{ℕ}
 use mathlib.Core.Bool.{Bool, true, false}
 use Rattle.names.specs.Read.{Read, got, none, refused, Reader, pure, _>>=_, _>>_, _or_}
@@ -27,26 +27,26 @@ eventAlone e = Sun e false (clockOf 0 0)
 
 -- a reading of a clock time that is added to an event, or taken off
 abbrev pub sunOf : ℕ → Bool → Read Clock → Read RawTime
-sunOf e less (got c j) = got (Sun e less c) j
-sunOf e less none = none
-sunOf e less (refused k p) = refused k p
+sunOf e negative (got c j) = got (Sun e negative c) j
+sunOf e negative none = none
+sunOf e negative (refused k p) = refused k p
 
--- behind `(` and an event: `±H:MM`
-unfoldable pub moved : ℕ → Reader RawTime
-moved e = (do sign "+"; c ← clock; pure (Sun e false c)) or (do sign "-"; c ← clock; pure (Sun e true c))
+-- after `(` and an event: `±H:MM`
+unfoldable pub withOffset : ℕ → Reader RawTime
+withOffset e = (do sign "+"; c ← clock; pure (Sun e false c)) or (do sign "-"; c ← clock; pure (Sun e true c))
 
 -- `(event±H:MM)`
-unfoldable pub movedEvent : Reader RawTime
-movedEvent = do
+unfoldable pub eventWithOffset : Reader RawTime
+eventWithOffset = do
   sign "("
   e ← name event
-  t ← moved e
+  t ← withOffset e
   sign ")"
   pure t
 
 -- an event, or `(event±H:MM)`
 abbrev pub eventTime : Reader RawTime
-eventTime = (do e ← name event; pure (eventAlone e)) or movedEvent
+eventTime = (do e ← name event; pure (eventAlone e)) or eventWithOffset
 
 -- a time
 unfoldable pub rawTime : Reader RawTime

@@ -1,10 +1,10 @@
 // Times: clock times, sun events and spans of them.
-mod clocks;
-mod meaning;
+mod meanings;
 mod spans;
+mod times;
 
 use names::Cursor;
-pub use spans::event_item_behind;
+pub use spans::event_item_after;
 pub use spans::time_item;
 
 // A clock time as it is read.
@@ -19,7 +19,7 @@ pub enum RawTime {
     Sun(u8, bool, Clock),
 }
 
-// What stands behind a span's end, as it is read: nothing, a plus, or a repeat.
+// What stands after a span's end, as it is read: nothing, a plus, or a repeat.
 pub enum RawTail {
     Nothing,
     Plus,
@@ -39,13 +39,13 @@ pub enum TimeRead {
     Missing,
 }
 
-// What reading a repeat finds behind a slash.
+// What reading a repeat finds after a slash.
 pub enum TailRead {
     Got(RawTail, Cursor),
     Missing,
 }
 
-// What stands behind a span's end, and the place after it.
+// What stands after a span's end, and the place after it.
 pub struct TailThen {
     pub tail: RawTail,
     pub next: Cursor,

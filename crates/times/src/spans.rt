@@ -13,12 +13,12 @@ use crate::RawTime;
 use crate::TailRead;
 use crate::TailThen;
 use crate::TimeRead;
-use crate::clocks::clock;
-use crate::clocks::event_time;
-use crate::clocks::raw_time;
-use crate::meaning::alone_meaning;
-use crate::meaning::open_meaning;
-use crate::meaning::until_meaning;
+use crate::meanings::alone_meaning;
+use crate::meanings::open_meaning;
+use crate::meanings::until_meaning;
+use crate::times::clock;
+use crate::times::event_time;
+use crate::times::raw_time;
 use names::Cursor;
 use names::Manner;
 use names::Num;
@@ -26,7 +26,7 @@ use names::Step;
 use records::ItemRead;
 use records::judged;
 
-// Behind a slash: `H:MM` or `MM`.
+// After a slash: `H:MM` or `MM`.
 fn repeated(s: &[u8], c: Cursor) -> TailRead
     ensures { λ r. ⌜ spans.repeated (now (s .entry)) (c .at) ≡ seenTail r ⌝ }
 {
@@ -41,7 +41,7 @@ fn repeated(s: &[u8], c: Cursor) -> TailRead
     TailRead::Got(RawTail::Minutes(m as u8), e)
 }
 
-// What stands behind a span's end: `+`, `/MM` or `/H:MM`, or nothing.
+// What stands after a span's end: `+`, `/MM` or `/H:MM`, or nothing.
 fn tail(s: &[u8], c: Cursor) -> TailThen
     ensures { λ r. ⌜ spans.tail (now (s .entry)) (c .at) ≡ thenTail r ⌝ }
 {
@@ -86,8 +86,8 @@ fn until_item(s: &[u8], p: usize, c: Cursor, start: RawTime) -> ItemRead
 }
 
 // The item that begins at p, after its start: a plus, an end, or nothing.
-fn span_item_behind(s: &[u8], m: Manner, p: usize, c: Cursor, start: RawTime) -> ItemRead
-    ensures { λ r. ⌜ meant p (spans.spanBehind start) (meanings.spanMeaning m) (now (s .entry)) (c .at) ≡ seenItem r ⌝ }
+fn span_item_after(s: &[u8], m: Manner, p: usize, c: Cursor, start: RawTime) -> ItemRead
+    ensures { λ r. ⌜ meant p (spans.spanAfter start) (meanings.spanMeaning m) (now (s .entry)) (c .at) ≡ seenItem r ⌝ }
 {
     let plus = c.sign(s, b'+');
     if let Step::Got(d) = plus {
@@ -106,20 +106,20 @@ pub fn time_item(s: &[u8], m: Manner, c: Cursor) -> ItemRead
 {
     let fixed = clock(s, c);
     if let ClockRead::Got(t, d) = fixed {
-        return span_item_behind(s, m, c.at, d, RawTime::Fixed(t));
+        return span_item_after(s, m, c.at, d, RawTime::Fixed(t));
     }
     let first = event_time(s, c);
     let TimeRead::Got(start, e) = first else {
         return ItemRead::Missing;
     };
-    span_item_behind(s, m, c.at, e, start)
+    span_item_after(s, m, c.at, e, start)
 }
 
-// The item that begins at p with an event, behind the event.
-pub fn event_item_behind(s: &[u8], m: Manner, p: usize, c: Cursor, event: u8) -> ItemRead
-    ensures { λ r. ⌜ spans.eventItemBehind m p event (now (s .entry)) (c .at) ≡ seenItem r ⌝ }
+// The item that begins at p with an event, after the event.
+pub fn event_item_after(s: &[u8], m: Manner, p: usize, c: Cursor, event: u8) -> ItemRead
+    ensures { λ r. ⌜ spans.eventItemAfter m p event (now (s .entry)) (c .at) ≡ seenItem r ⌝ }
 {
-    span_item_behind(
+    span_item_after(
         s,
         m,
         p,

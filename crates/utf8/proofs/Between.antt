@@ -133,7 +133,9 @@ module _ (r v : List ℕ) (o : Outer v) where
   letter-end = go (decLt (length r) (length (r ++ v)))
     where
       go : Dec (length r < length (r ++ v)) → letter (r ++ v) (length r) ≡ none
-      go (yes h) = letter-longer (r ++ v) (length r) h (rw (at-end r v) (plain-low (getD v 0 0) (outer-low v o) ∙ o)) ∙ longer-from .below (r ++ v) (length r) (rw (at-end r v) (omega (arith, outer-low v o)))
+      go (yes h) =
+          letter-longer (r ++ v) (length r) h (rw (at-end r v) (plain-low (getD v 0 0) (outer-low v o) ∙ o))
+          ∙ longer-from .below (r ++ v) (length r) (rw (at-end r v) (omega (arith, outer-low v o)))
       go (no h) = letter-past (r ++ v) (length r) (omega arith)
 
   letter-char : (i : ℕ) → i ≤ length r → (i < length r → isInner (getD r i 0) ≡ true) → letter (r ++ v) i ≡ utf8-char r i
@@ -175,7 +177,9 @@ module _ (s : List ℕ) (i k : ℕ) (w : Reached s i k) (h : i ≤ length s) whe
 
   -- the text up to where bytes of a comment end, and of it what follows the place
   cut : letters s i ≡ utf8-octets (take k s) i
-  cut = rw (take-append-drop k s) at (letters-octets (take k s) (drop k s) (rw (getD-drop k s 0 0, add-zero) (w .stop)) (length s) i (omega (arith, long, w .inside h)) (omega (arith, long, w .forward)) inner-taken)
+  cut =
+      rw (take-append-drop k s) at (letters-octets (take k s) (drop k s) (rw (getD-drop k s 0 0, add-zero) (w .stop)) (length s) i (omega (arith, long, w .inside h))
+      (omega (arith, long, w .forward)) inner-taken)
 
   moved-cut : letters s i ≡ moved keep i (utf8-octets (slice i k s) 0)
   moved-cut =

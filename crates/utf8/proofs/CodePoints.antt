@@ -15,7 +15,7 @@ use Rattle.names.proofs.Local.{past-one}
 use Rattle.names.proofs.Laws.{within-true, within-below, within-above, within-range}
 use Rattle.utf8.specs.Utf8.{octet, utf8-tail, longer, utf8-char, utf8-octets, twoMore, threeMore}
 use Rattle.utf8.specs.CodePoints.{isScalar, sixBits, encode, encodeAll, allScalar, WellFormed, Encoded, TableIsCodePoints}
-use Rattle.utf8.proofs.Laws.{apart, same-place, octet-got, octet-past, octet-is, octet-not}
+use Rattle.utf8.proofs.Laws.{afterBlank, same-place, octet-got, octet-past, octet-is, octet-not}
 use Rattle.utf8.proofs.Rows.{longer-from, longer-to, at-c2, at-e0, at-3, at-ed, at-f0, at-f1, at-f4}
 use Rattle.utf8.proofs.Firsts.{char-plain, char-longer, char-past}
 use Rattle.utf8.proofs.Cut.{char-ended}
@@ -96,18 +96,26 @@ module _ (c : ℕ) (t : List ℕ) where
     where
       go : Dec (c < 0x1000) → Dec (c < 0xD000) → Dec (c < 0xD800) → Dec (c < 0xE000) → longer (three c t) 0 ≡ got tt 3
       go (yes a) y x z = at-e0 (three c t) 0 (omega arith) (omega arith) ∙ two-is (three c t) 1 0xA0 0xBF (omega arith) (omega arith) (omega arith) (omega arith) (omega arith)
-      go (no a) (yes b) x z = at-3 (three c t) 0 (omega arith) (omega arith) (omega arith) (omega arith) ∙ two-is (three c t) 1 0x80 0xBF (omega arith) (omega arith) (omega arith) (omega arith) (omega arith)
+      go (no a) (yes b) x z =
+          at-3 (three c t) 0 (omega arith) (omega arith) (omega arith) (omega arith)
+          ∙ two-is (three c t) 1 0x80 0xBF (omega arith) (omega arith) (omega arith) (omega arith) (omega arith)
       go (no a) (no b) (yes x) z = at-ed (three c t) 0 (omega arith) (omega arith) ∙ two-is (three c t) 1 0x80 0x9F (omega arith) (omega arith) (omega arith) (omega arith) (omega arith)
       go (no a) (no b) (no x) (yes z) = absurd (omega (arith, w .whole (omega arith)))
-      go (no a) (no b) (no x) (no z) = at-3 (three c t) 0 (omega arith) (omega arith) (omega arith) (omega arith) ∙ two-is (three c t) 1 0x80 0xBF (omega arith) (omega arith) (omega arith) (omega arith) (omega arith)
+      go (no a) (no b) (no x) (no z) =
+          at-3 (three c t) 0 (omega arith) (omega arith) (omega arith) (omega arith)
+          ∙ two-is (three c t) 1 0x80 0xBF (omega arith) (omega arith) (omega arith) (omega arith) (omega arith)
 
   read-4 : 0x10000 ≤ c → c ≤ 0x10FFFF → longer (four c t) 0 ≡ got tt 4
   read-4 l h = go (decLt c 0x40000) (decLt c 0x100000)
     where
       go : Dec (c < 0x40000) → Dec (c < 0x100000) → longer (four c t) 0 ≡ got tt 4
       go (yes a) y = at-f0 (four c t) 0 (omega arith) (omega arith) ∙ three-is (four c t) 1 0x90 0xBF (omega arith) (omega arith) (omega arith) (omega arith) (omega arith) (omega arith) (omega arith)
-      go (no a) (yes b) = at-f1 (four c t) 0 (omega arith) (omega arith) (omega arith) ∙ three-is (four c t) 1 0x80 0xBF (omega arith) (omega arith) (omega arith) (omega arith) (omega arith) (omega arith) (omega arith)
-      go (no a) (no b) = at-f4 (four c t) 0 (omega arith) (omega arith) ∙ three-is (four c t) 1 0x80 0x8F (omega arith) (omega arith) (omega arith) (omega arith) (omega arith) (omega arith) (omega arith)
+      go (no a) (yes b) =
+          at-f1 (four c t) 0 (omega arith) (omega arith) (omega arith)
+          ∙ three-is (four c t) 1 0x80 0xBF (omega arith) (omega arith) (omega arith) (omega arith) (omega arith) (omega arith) (omega arith)
+      go (no a) (no b) =
+          at-f4 (four c t) 0 (omega arith) (omega arith)
+          ∙ three-is (four c t) 1 0x80 0x8F (omega arith) (omega arith) (omega arith) (omega arith) (omega arith) (omega arith) (omega arith)
 
   -- a scalar value, encoded, is a character
   read-char : Scalar c → utf8-char (encode c ++ t) 0 ≡ got tt (length (encode c))
@@ -132,8 +140,8 @@ octet-was : (lo hi : ℕ) (s : List ℕ) (i j : ℕ) → octet lo hi s i ≡ got
 octet-was lo hi s i j e = go (decLt i (length s)) (within lo hi (getD s i 0)) refl
   where
     go : Dec (i < length s) → (t : Bool) → within lo hi (getD s i 0) ≡ t → Octet lo hi s i j
-    go (no h) t w = absurd (apart (sym (octet-past lo hi s i (omega arith)) ∙ e))
-    go (yes h) false w = absurd (apart (sym (octet-not lo hi s i w) ∙ e))
+    go (no h) t w = absurd (afterBlank (sym (octet-past lo hi s i (omega arith)) ∙ e))
+    go (yes h) false w = absurd (afterBlank (sym (octet-not lo hi s i w) ∙ e))
     go (yes h) true w =
         let b = within-range lo hi (getD s i 0) w in
         record { inside = h; low = b .0; high = b .1; next = same-place (sym (octet-got lo hi s i h w) ∙ e) }
@@ -141,7 +149,7 @@ octet-was lo hi s i j e = go (decLt i (length s)) (within lo hi (getD s i 0)) re
 -- of one reader after another, each found something
 then-was : (s : List ℕ) (i j : ℕ) (r : Read (Unit {0})) (n : Reader (Unit {0})) → follow s i r (λ _. n) nothing ≡ got tt j → (k : ℕ) × (r ≡ got tt k) × (n s k ≡ got tt j)
 then-was s i j (got u k) n e = (k, refl, e)
-then-was s i j none n e = absurd (apart e)
+then-was s i j none n e = absurd (afterBlank e)
 then-was s i j (refused k p) n e = absurd (let z : _≡_ {A = ℕ} 0 1 = cc in omega arith)
 
 record Two (lo hi : ℕ) (s : List ℕ) (i j : ℕ) : Type 0 where
@@ -188,7 +196,14 @@ module _ (s : List ℕ) where
       let b = bytes-2 v (omega arith) (omega arith) in
       let a₀ : 0xC0 + v / 64 ≡ getD s 0 0 = omega arith in
       let a₁ : sixBits v ≡ getD s 1 0 = omega arith in
-      record { value = v; whole = record { top = omega arith; whole = λ l. omega arith }; rest = drop 2 s; is = rw (b, a₀, a₁) (drop-cons s 0 0 h ∙ ap (λ (t : List ℕ). getD s 0 0 ∷ t) (drop-cons s 1 0 (o .inside))); ends = rw b (o .next) }
+      record {
+        value = v;
+        whole = record { top = omega arith; whole = λ l. omega arith };
+        rest = drop 2 s;
+        is = rw (b, a₀, a₁) (drop-cons s 0 0 h
+            ∙ ap (λ (t : List ℕ). getD s 0 0 ∷ t) (drop-cons s 1 0 (o .inside)));
+        ends = rw b (o .next);
+      }
 
 -- the values of three bytes, and of four
 abbrev value-3 : List ℕ → ℕ
@@ -209,7 +224,9 @@ module _ (s : List ℕ) (lo hi : ℕ) (h : 0 < length s) (l : 0x80 ≤ lo) (k : 
         value = v;
         whole = record { top = omega arith; whole = w };
         rest = drop 3 s;
-        is = rw (b, a₀, a₁, a₂) (drop-cons s 0 0 h ∙ ap (λ (t : List ℕ). getD s 0 0 ∷ t) (drop-cons s 1 0 (o .first .inside) ∙ ap (λ (t : List ℕ). getD s 1 0 ∷ t) (drop-cons s 2 0 (o .second .inside))));
+        is =
+            rw (b, a₀, a₁, a₂) (drop-cons s 0 0 h ∙ ap (λ (t : List ℕ). getD s 0 0 ∷ t) (drop-cons s 1 0 (o .first .inside)
+            ∙ ap (λ (t : List ℕ). getD s 1 0 ∷ t) (drop-cons s 2 0 (o .second .inside))));
         ends = rw b (o .second .next);
       }
 
@@ -268,10 +285,10 @@ module _ (s : List ℕ) {j : ℕ} (h : 0 < length s) (e : longer s 0 ≡ got tt 
   was-longer = go (decLt (getD s 0 0) 0xC2) (decLt (getD s 0 0) 0xE0) (decLt (getD s 0 0) 0xF0) (decLt 0xF4 (getD s 0 0))
     where
       go : Dec (getD s 0 0 < 0xC2) → Dec (getD s 0 0 < 0xE0) → Dec (getD s 0 0 < 0xF0) → Dec (0xF4 < getD s 0 0) → Decoded s j
-      go (yes a) x y z = absurd (apart (sym (longer-from .below s 0 a) ∙ e))
+      go (yes a) x y z = absurd (afterBlank (sym (longer-from .below s 0 a) ∙ e))
       go (no a) (yes b) y z = decoded-2 s h (omega arith) (omega arith) (octet-was 0x80 0xBF s 1 j (sym (at-c2 s 0 h (omega arith) (omega arith)) ∙ e))
       go (no a) (no b) (yes c) z = was-3 (omega arith) (omega arith)
-      go (no a) (no b) (no c) (yes d) = absurd (apart (sym (longer-to .above s 0 d) ∙ e))
+      go (no a) (no b) (no c) (yes d) = absurd (afterBlank (sym (longer-to .above s 0 d) ∙ e))
       go (no a) (no b) (no c) (no d) = was-4 (omega arith) (omega arith)
 
 -- any character

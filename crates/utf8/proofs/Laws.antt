@@ -12,8 +12,8 @@ use Rattle.names.proofs.Laws.{one-got, one-other, one-past, within-true}
 use Rattle.utf8.specs.Utf8.{octet}
 
 -- nothing found is no place, and one answer has one place
-pub apart : {j : ℕ} → none ≡ got (tt {0}) j → ⊥
-apart e = let z : _≡_ {A = ℕ} 0 1 = cc in omega arith
+pub afterBlank : {j : ℕ} → none ≡ got (tt {0}) j → ⊥
+afterBlank e = let z : _≡_ {A = ℕ} 0 1 = cc in omega arith
 
 pub same-place : {i j : ℕ} → got (tt {0}) i ≡ got tt j → j ≡ i
 same-place e = cc

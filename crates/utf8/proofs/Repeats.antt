@@ -12,7 +12,7 @@ use Rattle.names.proofs.Local.{Ends, takes, moved, keep, stop-end}
 use Rattle.names.proofs.Skips.{map-map, many-is}
 use Rattle.utf8.specs.Utf8.{utf8-char, utf8-octets}
 use Rattle.utf8.specs.Letters.{letter, letters}
-use Rattle.utf8.proofs.Laws.{apart}
+use Rattle.utf8.proofs.Laws.{afterBlank}
 use Rattle.utf8.proofs.Cut.{char-ended, octets-ended, letter-ended}
 
 -- as many as there are
@@ -61,5 +61,5 @@ octets-after u t = rw (append-nil, add-zero) at (octets-ended {u = u} {a = true}
 -- a reading that ends so where it is moved ended so where it was
 pub unmoved : (n k : ℕ) (r : Read (Unit {0})) → moved keep n r ≡ got tt (n + k) → r ≡ got tt k
 unmoved n k (got u j) e = let q : n + j ≡ n + k = cc in ap (λ (x : ℕ). got tt x) (omega arith)
-unmoved n k none e = absurd (apart e)
+unmoved n k none e = absurd (afterBlank e)
 unmoved n k (refused m p) e = absurd (let z : _≡_ {A = ℕ} 0 1 = cc in omega arith)

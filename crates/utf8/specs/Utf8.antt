@@ -1,4 +1,4 @@
--- Well-formed UTF-8: the table of RFC 3629, section 4, line by line, with its names.
+-- Well-formed UTF-8: the table of RFC 3629, section 4, line by line, with its names (docs/RULES.md, 6).
 use Prim.Native.Nat.{ℕ}
 use Rattle.names.specs.Tests.{within}
 use Rattle.names.specs.Read.{Reader, _>>_, _or_, map, one}

@@ -1,4 +1,3 @@
--- `calendar::is_day` meets its contract.
 use borrow.Author.Needs.{needs}
 use mathlib.Core.Path.{sym, _∙_}
 use Rattle.calendar.specs.Calendar.{isDay}

@@ -1,4 +1,3 @@
--- `calendar::last_of` meets its contract.
 use borrow.Author.Needs.{needs}
 use mathlib.Core.Path.{sym}
 use Rattle.calendar.specs.Calendar.{lastOf}

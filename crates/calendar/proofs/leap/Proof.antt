@@ -1,4 +1,3 @@
--- `calendar::leap` meets its contract.
 use Prim.Native.Nat.{_%_}
 use borrow.Author.Tests.{eq-eqb, ne-eqb}
 use Rattle.calendar.specs.Calendar.{leap}

@@ -1,4 +1,3 @@
--- `entries::lorukinde_note` meets its contract.
 use borrow.Author.Needs.{needs}
 use mathlib.Core.Path.{ap}
 use mir.Facts.{toZ-ofZ}

@@ -1,4 +1,3 @@
--- `entries::lorukinde_read_feed` meets its contract.
 use borrow.Author.Needs.{needs}
 use Prim.Native.Nat.{ℕ}
 use mathlib.Core.List.{List}

@@ -20,4 +20,5 @@ lorukinde-read-house-part-spec =
     (λ c κs. search needs)  -- read-house-part-bytes-requires
     (λ c κs. let h = small (c .before .before .before .before .before .before .before) in (h .same .place, h .same .records, h .same .warnings, h .next))  -- part-numbers-requires
     (λ c. search needs)  -- same-length
-    (λ c. let r = c .before .before .before .before .before .before .before .before in rw (c .part-numbers .ensures) (ap (λ (x : PartAnswer × List ℕ). (partNumbers (x .0), x .1)) (r .read-house-part-bytes .ensures))))  -- returns
+    (λ c. let r = c .before .before .before .before .before .before .before .before in
+    rw (c .part-numbers .ensures) (ap (λ (x : PartAnswer × List ℕ). (partNumbers (x .0), x .1)) (r .read-house-part-bytes .ensures))))  -- returns

@@ -20,4 +20,5 @@ lorukinde-read-house-sheet-spec =
     (λ c κs. search needs)  -- read-house-sheet-bytes-requires
     (λ c κs. let h = small (c .before .before .before .before .before) in (h .place, h .records, h .warnings))  -- answer-numbers-requires
     (λ c. search needs)  -- same-length
-    (λ c. let r = c .before .before .before .before .before .before in rw (c .answer-numbers .ensures) (ap (λ (x : Answer × List ℕ). (sheetNumbers (x .0), x .1)) (r .read-house-sheet-bytes .ensures))))  -- returns
+    (λ c. let r = c .before .before .before .before .before .before in
+    rw (c .answer-numbers .ensures) (ap (λ (x : Answer × List ℕ). (sheetNumbers (x .0), x .1)) (r .read-house-sheet-bytes .ensures))))  -- returns

@@ -1,4 +1,4 @@
--- `entries::lorukinde_read_sheet` meets its contract: the answer's numbers are small, and so stored as they are.
+-- The answer's numbers are small, and so stored as they are.
 use borrow.Author.Needs.{needs}
 use Prim.Native.Nat.{ℕ}
 use mathlib.Core.List.{List}
@@ -20,4 +20,5 @@ lorukinde-read-sheet-spec =
     (λ c κs. search needs)  -- read-sheet-bytes-requires
     (λ c κs. let h = small (c .before .before .before .before .before) in (h .place, h .records, h .warnings))  -- answer-numbers-requires
     (λ c. search needs)  -- same-length
-    (λ c. let r = c .before .before .before .before .before .before in rw (c .answer-numbers .ensures) (ap (λ (x : Answer × List ℕ). (sheetNumbers (x .0), x .1)) (r .read-sheet-bytes .ensures))))  -- returns
+    (λ c. let r = c .before .before .before .before .before .before in
+    rw (c .answer-numbers .ensures) (ap (λ (x : Answer × List ℕ). (sheetNumbers (x .0), x .1)) (r .read-sheet-bytes .ensures))))  -- returns

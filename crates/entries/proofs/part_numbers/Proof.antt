@@ -1,4 +1,3 @@
--- `entries::part_numbers` meets its contract.
 use borrow.Author.Needs.{needs}
 use Rattle.entries.proofs.part_numbers.Statement.{statement}
 use Rattle.entries.proofs.part_numbers.Tie as tie

@@ -1,4 +1,3 @@
--- `outputs::output` meets its contract.
 use borrow.Author.Needs.{needs}
 use Prim.Native.Nat.{_*_, _≤_}
 use mathlib.Core.List.{_++_}
@@ -35,6 +34,7 @@ output-spec =
       most,
       all-counted (outputOf (now (a .sheet))) (now (a .out))
           (rw (output-lines (now (a .sheet)) _ refl (r .read-sheet .ensures)) at
-          (then (line (numbersOf (r .read-sheet .result))) (lines (recordsIn (r .read-sheet .result .records) (r .read-sheet .last .1 .0))) 0 (now (a .out)) (omega (arith, s .good .1 .0 .0)) (w .put-answer .ensures .1) (p .put-records .ensures .1)))
+          (then (line (numbersOf (r .read-sheet .result))) (lines (recordsIn (r .read-sheet .result .records) (r .read-sheet .last .1 .0))) 0 (now (a .out)) (omega
+          (arith, s .good .1 .0 .0)) (w .put-answer .ensures .1) (p .put-records .ensures .1)))
           most,
     )))  -- returns

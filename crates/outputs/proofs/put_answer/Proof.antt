@@ -1,4 +1,3 @@
--- `outputs::put_answer` meets its contract.
 use borrow.Author.Needs.{needs}
 use Prim.Native.Char.{code}
 use mathlib.Core.List.{_++_}

@@ -1,4 +1,3 @@
--- `outputs::put_ended` meets its contract.
 use borrow.Author.Needs.{needs}
 use mathlib.Core.List.{_∷_, []}
 use mathlib.Core.Path.{ap, _∙_}

@@ -1,4 +1,4 @@
--- `outputs::put_records` meets its contract: what is left of the lines, written after what was, makes the whole.
+-- What is left of the lines, written after what was, makes the whole.
 use borrow.Author.Needs.{needs}
 use Prim.Native.Nat.{_+_, _*_, _-_, _≤_}
 use native.Mathlib.Omega.{arith}
@@ -13,7 +13,8 @@ use Rattle.outputs.proofs.put_records.Statement.{statement}
 use Rattle.outputs.proofs.put_records.Tie as tie
 
 abbrev Inv-loop : tie.InvT-loop
-Inv-loop out₀ table n next₀ k₀ out next k = (k ≤ n) × (next .at ≤ next₀ .at + 192 * k) × Left (lines (recordsIn n table)) (next₀ .at) out₀ (next .at) out (lines (recordsIn (n - k) (drop (k * 16) table)))
+Inv-loop out₀ table n next₀ k₀ out next k =
+    (k ≤ n) × (next .at ≤ next₀ .at + 192 * k) × Left (lines (recordsIn n table)) (next₀ .at) out₀ (next .at) out (lines (recordsIn (n - k) (drop (k * 16) table)))
 
 abbrev μ-loop : tie.MeasureT-loop
 μ-loop out₀ table n next₀ k₀ out next k = n - k
@@ -43,7 +44,8 @@ put-records-spec =
     let e : (k * 16 + 16) - k * 16 ≡ 16 = omega arith in (
       search needs,
       omega (arith, l .loop .inv .1, rw e at (p .put-line .ensures .0), length-take 16 (drop (k * 16) t)),
-      less-left (line (take 16 (drop (k * 16) t))) (lines (recordsIn (n - (k + 1)) (drop ((k + 1) * 16) t))) (search needs) (l .loop .inv .2) (lines-more t n k (search needs)) (rw e at (p .put-line .ensures .1)),
+      less-left (line (take 16 (drop (k * 16) t))) (lines (recordsIn (n - (k + 1)) (drop ((k + 1) * 16) t))) (search needs) (l .loop .inv .2) (lines-more t n k
+          (search needs)) (rw e at (p .put-line .ensures .1)),
     ))  -- loop-again
     (λ c. search needs)  -- same-length
     (λ c. let l = c .before in

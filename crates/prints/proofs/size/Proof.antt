@@ -1,4 +1,3 @@
--- `prints::size` meets its contract.
 use native.Mathlib.Omega.{arith}
 use mathlib.Core.Path.{ap}
 use lib.IntN.{natAbs}

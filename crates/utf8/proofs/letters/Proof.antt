@@ -1,4 +1,3 @@
--- `utf8::letters` meets its contract.
 use Prim.Native.Nat.{_-_}
 use borrow.Author.Needs.{needs}
 use native.Mathlib.Omega.{arith}
@@ -44,7 +43,8 @@ letters-spec =
     (λ c. search needs)  -- add-at
     (λ c. search needs)  -- loop-less
     (λ c. let l = c .before .before .before .before .before in let s = now (l .before .before .args .s) in
-    l .loop .inv ∙ letters-more s (l .loop .at) (letter-plain s (l .loop .at) (omega arith) (plain-is _ (sym (c .before .before .within .ensures) ∙ c .before .if1 .taken) (c .if2 .left))))  -- loop-again
+    l .loop .inv ∙ letters-more s (l .loop .at) (letter-plain s (l .loop .at) (omega arith) (plain-is _ (sym (c .before .before .within .ensures)
+    ∙ c .before .if1 .taken) (c .if2 .left))))  -- loop-again
     (λ c κs. search needs)  -- longer-requires
     (λ c. search needs)  -- enum-known-next
     (λ c. search needs)  -- enum-told

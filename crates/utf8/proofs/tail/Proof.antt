@@ -1,4 +1,3 @@
--- `utf8::tail` meets its contract.
 use borrow.Author.Needs.{needs}
 use Rattle.utf8.specs.Utf8.{utf8-tail}
 use Rattle.utf8.proofs.tail.Statement.{statement}

@@ -1,4 +1,3 @@
--- `utf8::three_more` meets its contract.
 use borrow.Author.Needs.{needs}
 use Rattle.utf8.specs.Utf8.{utf8-tail}
 use Rattle.names.proofs.Facts.{went}

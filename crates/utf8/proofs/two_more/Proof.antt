@@ -1,4 +1,3 @@
--- `utf8::two_more` meets its contract.
 use borrow.Author.Needs.{needs}
 use Rattle.names.proofs.Facts.{went}
 use Rattle.utf8.proofs.two_more.Statement.{statement}

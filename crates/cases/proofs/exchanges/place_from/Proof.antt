@@ -1,4 +1,4 @@
--- `cases::exchanges::place_from` meets its contract: a place that is not below 0 is counted.
+-- A place that is not below 0 is counted.
 use borrow.Author.Needs.{needs}
 use native.Mathlib.Omega.{arith}
 use mir.Facts.{toZ-ofZ}

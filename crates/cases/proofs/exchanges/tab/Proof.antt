@@ -1,4 +1,3 @@
--- `cases::exchanges::tab` meets its contract.
 use borrow.Author.Needs.{needs}
 use Prim.Native.Nat.{_-_, _≤_}
 use lib.ListN.{length}

@@ -1,4 +1,3 @@
--- `dates::ends::end_shape` meets its contract.
 use borrow.Author.Needs.{needs}
 use mathlib.Core.Path.{ap}
 use Rattle.names.proofs.Facts.{Went, went, Said, said}

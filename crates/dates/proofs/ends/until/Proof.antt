@@ -1,4 +1,3 @@
--- `dates::ends::until` meets its contract.
 use borrow.Author.Needs.{needs}
 use mathlib.Core.Path.{ap}
 use Rattle.names.proofs.Facts.{Said, said}

@@ -1,4 +1,3 @@
--- `dates::meanings::bare` meets its contract.
 use borrow.Author.Needs.{needs}
 use mathlib.Core.Path.{_∙_}
 use Rattle.dates.proofs.meanings.bare.Statement.{statement}

@@ -1,4 +1,3 @@
--- `dates::meanings::date_meaning` meets its contract.
 use borrow.Author.Needs.{needs}
 use mathlib.Core.Bool.{true}
 use mathlib.Core.Path.{_≡_, sym, _∙_}

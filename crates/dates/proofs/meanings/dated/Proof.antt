@@ -1,4 +1,3 @@
--- `dates::meanings::dated` meets its contract.
 use borrow.Author.Needs.{needs}
 use Rattle.dates.proofs.meanings.dated.Statement.{statement}
 use Rattle.dates.proofs.meanings.dated.Tie as tie

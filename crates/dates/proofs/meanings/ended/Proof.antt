@@ -1,4 +1,3 @@
--- `dates::meanings::ended` meets its contract.
 use borrow.Author.Needs.{needs}
 use Rattle.dates.proofs.Good.{until-good, bare-good}
 use Rattle.dates.proofs.meanings.ended.Statement.{statement}

@@ -1,4 +1,3 @@
--- `dates::meanings::good_day` meets its contract.
 use borrow.Author.Needs.{needs}
 use Rattle.dates.proofs.meanings.good_day.Statement.{statement}
 use Rattle.dates.proofs.meanings.good_day.Tie as tie

@@ -1,4 +1,3 @@
--- `dates::meanings::good_end` meets its contract.
 use borrow.Author.Needs.{needs}
 use mathlib.Core.Path.{sym, _∙_}
 use Rattle.dates.proofs.meanings.good_end.Statement.{statement}

@@ -1,4 +1,3 @@
--- `dates::meanings::good_years` meets its contract.
 use borrow.Author.Needs.{needs}
 use Rattle.dates.proofs.meanings.good_years.Statement.{statement}
 use Rattle.dates.proofs.meanings.good_years.Tie as tie

@@ -1,4 +1,3 @@
--- `dates::meanings::month_meaning` meets its contract.
 use borrow.Author.Needs.{needs}
 use mathlib.Core.Path.{sym, _∙_}
 use Rattle.dates.specs.Meanings.{monthMeaning}

@@ -1,4 +1,3 @@
--- `dates::meanings::offset_of` meets its contract.
 use borrow.Author.Needs.{needs}
 use borrow.Author.Tests.{leb-true}
 use Rattle.dates.proofs.meanings.offset_of.Statement.{statement}

@@ -1,4 +1,3 @@
--- `dates::ranges::good_range` meets its contract.
 use borrow.Author.Needs.{needs}
 use mathlib.Core.Path.{sym, _∙_}
 use Rattle.dates.specs.Ranges.{goodRange}
@@ -14,6 +13,10 @@ good-range-spec =
     (λ c κs. search needs)  -- within-requires
     (λ c. search needs)  -- cast-within-2
     (λ c κs. search needs)  -- within-requires-2
-    (λ c. rw (sym (c .before .before .before .before .before .within .ensures) ∙ c .before .before .before .before .if1 .taken, sym (c .before .before .within2 .ensures) ∙ c .before .if2 .taken))  -- returns
+    (λ c. rw (
+      sym (c .before .before .before .before .before .within .ensures) ∙ c .before .before .before .before .if1 .taken,
+      sym (c .before .before .within2 .ensures)
+          ∙ c .before .if2 .taken,
+    ))  -- returns
     (λ c. rw (sym (c .before .before .before .before .within .ensures) ∙ c .before .before .before .if1 .taken, sym (c .before .within2 .ensures) ∙ c .if2 .left))  -- returns-2
     (λ c. rw (sym (c .before .within .ensures) ∙ c .if1 .left)))  -- returns-3

@@ -1,4 +1,3 @@
--- `dates::ranges::step_of` meets its contract.
 use borrow.Author.Needs.{needs}
 use borrow.Author.Tests.{lt-ltb, le-ltb}
 use Rattle.dates.specs.Ranges.{stepOf}

@@ -1,4 +1,3 @@
--- `dates::ranges::stepped` meets its contract.
 use borrow.Author.Needs.{needs}
 use Rattle.names.proofs.Facts.{Was, was, Went, went}
 use Rattle.dates.specs.Ranges.{stepped}

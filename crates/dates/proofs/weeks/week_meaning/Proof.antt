@@ -1,4 +1,3 @@
--- `dates::weeks::week_meaning` meets its contract.
 use borrow.Author.Needs.{needs}
 use borrow.Author.Tests.{lt-ltb, le-ltb}
 use mathlib.Core.Bool.{true}
@@ -22,5 +21,11 @@ week-meaning-spec =
     (λ c. rw (good (c .before .before .before .before), le-ltb _ _ (c .before .before .if2 .left), lt-ltb _ _ (c .if3 .taken)))  -- returns-2
     (λ c. search needs)  -- cast-step-of
     (λ c κs. search needs)  -- step-of-requires
-    (λ c. rw (good (c .before .before .before .before .before .before), le-ltb _ _ (c .before .before .before .before .if2 .left), le-ltb _ _ (c .before .before .if3 .left), c .step-of .ensures))  -- returns-3
+    (λ c. rw (
+      good (c .before .before .before .before .before .before),
+      le-ltb _ _ (c .before .before .before .before .if2 .left),
+      le-ltb _ _
+          (c .before .before .if3 .left),
+      c .step-of .ensures,
+    ))  -- returns-3
     (λ c. rw (sym (c .before .good-range .ensures) ∙ c .if1 .left)))  -- returns-4

@@ -1,4 +1,3 @@
--- `dates::years::until_year` meets its contract.
 use borrow.Author.Needs.{needs}
 use native.Mathlib.Omega.{arith}
 use Rattle.names.proofs.Facts.{Was, was, Went, went}

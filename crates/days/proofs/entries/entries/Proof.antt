@@ -1,4 +1,3 @@
--- `days::entries` meets its contract.
 use borrow.Author.Needs.{needs}
 use Prim.Native.Nat.{_-_}
 use mathlib.Core.Path.{_≡_, refl, ap, _∙_}
@@ -17,7 +16,7 @@ use Rattle.days.proofs.Laws.{marked-first, marked-more, marked-done, ma
 use Rattle.days.proofs.entries.entries.Statement.{statement}
 use Rattle.days.proofs.entries.entries.Tie as tie
 
--- what the entries from here on set is what all behind the first do
+-- what the entries from here on set is what all after the first do
 abbrev Inv-loop : tie.InvT-loop
 Inv-loop s marks₀ at₀ marks at = map (markedAll marks₀) (many nextEntry) s at₀ ≡ map (markedAll marks) (many nextEntry) s at
 
@@ -46,7 +45,12 @@ entries-spec =
     (λ c κs. search needs)  -- next-entry-requires
     (λ c. search needs)  -- enum-known-more
     (λ c. search needs)  -- enum-told-2
-    (λ c. let l = c .before .before .before in let a = l .before .before .before .before .before .before .before .before .args in marked-first (now (a .s)) (a .c .at) (first (l .before .before .before .before) .is) (l .before .before .no-marks .ensures) (l .before .marked .ensures) ∙ l .loop .inv ∙ marked-done (now (a .s)) (l .loop .at) (l .loop .marks) (said (c .before .before .next-entry .ensures) (ap seenEntry (c .enum-told2 .given .1)) .is))  -- returns-2
+    (λ c. let l = c .before .before .before in let a = l .before .before .before .before .before .before .before .before .args in
+    marked-first (now (a .s)) (a .c .at) (first (l .before .before .before .before) .is) (l .before .before .no-marks .ensures) (l .before .marked .ensures)
+    ∙ l .loop .inv ∙ marked-done (now (a .s)) (l .loop .at) (l .loop .marks) (said (c .before .before .next-entry .ensures) (ap seenEntry
+    (c .enum-told2 .given .1)) .is))  -- returns-2
     (λ c κs. search needs)  -- marked-requires-2
     (λ c. let w = more (c .before .before) in omega (arith, past-one nextEntry-alike (w .is)))  -- loop-less
-    (λ c. let l = c .before .before .before .before .before in let w = more (c .before .before) in let a = l .before .before .before .before .before .before .before .before .args in l .loop .inv ∙ marked-more (now (a .s)) (l .loop .at) (l .loop .marks) (w .is) (c .marked2 .ensures)))  -- loop-again
+    (λ c. let l = c .before .before .before .before .before in let w = more (c .before .before) in
+    let a = l .before .before .before .before .before .before .before .before .args in
+    l .loop .inv ∙ marked-more (now (a .s)) (l .loop .at) (l .loop .marks) (w .is) (c .marked2 .ensures)))  -- loop-again

@@ -1,4 +1,3 @@
--- `days::front_entry` meets its contract.
 use borrow.Author.Needs.{needs}
 use native.Mathlib.Omega.{arith}
 use Rattle.names.proofs.Facts.{Was, was, Went, went}

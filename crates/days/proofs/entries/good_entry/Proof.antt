@@ -1,4 +1,3 @@
--- `days::good_entry` meets its contract.
 use borrow.Author.Needs.{needs}
 use mathlib.Core.Bool.{true, false}
 use mathlib.Core.Path.{_≡_, sym, _∙_}
@@ -16,5 +15,6 @@ good-entry-spec =
     (λ c κs. search needs)  -- within-requires
     (λ c. search needs)  -- cast-within-2
     (λ c κs. search needs)  -- within-requires-2
-    (λ c. let h : within 1 5 (c .before .before .before .before .before .args .e .first) ≡ true = sym (c .before .before .before .within .ensures) ∙ c .before .before .if1 .taken in rw h (c .within2 .ensures))  -- returns
+    (λ c. let h : within 1 5 (c .before .before .before .before .before .args .e .first) ≡ true = sym (c .before .before .before .within .ensures)
+    ∙ c .before .before .if1 .taken in rw h (c .within2 .ensures))  -- returns
     (λ c. let h : within 1 5 (c .before .before .before .args .e .first) ≡ false = sym (c .before .within .ensures) ∙ c .if1 .left in rw h))  -- returns-2

@@ -1,4 +1,3 @@
--- `days::marked` meets its contract.
 use borrow.Author.Needs.{needs}
 use mathlib.Core.Bool.{_&&_}
 use mathlib.Core.Logic.{⊎-elim}

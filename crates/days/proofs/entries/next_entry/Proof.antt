@@ -1,4 +1,3 @@
--- `days::next_entry` meets its contract.
 use borrow.Author.Needs.{needs}
 use Rattle.names.proofs.Facts.{went}
 use Rattle.days.specs.Entries.{nextEntry}

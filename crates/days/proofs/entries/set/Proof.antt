@@ -1,4 +1,3 @@
--- `days::set` meets its contract.
 use borrow.Author.Needs.{needs}
 use Rattle.days.proofs.entries.set.Statement.{statement}
 use Rattle.days.proofs.entries.set.Tie as tie

@@ -1,4 +1,3 @@
--- `days::set_all` meets its contract.
 use borrow.Author.Needs.{needs}
 use Rattle.days.specs.Entries.{setAll}
 use Rattle.days.proofs.entries.set_all.Statement.{statement}

@@ -1,4 +1,3 @@
--- `days::holiday_meaning` meets its contract.
 use borrow.Author.Needs.{needs}
 use borrow.Author.Tests.{le-leb, lt-leb}
 use Rattle.days.specs.Holidays.{holidayMeaning}

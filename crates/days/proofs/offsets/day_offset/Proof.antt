@@ -1,4 +1,3 @@
--- `days::day_offset` meets its contract.
 use borrow.Author.Needs.{needs}
 use mathlib.Core.Bool.{Bool}
 use mathlib.Core.Path.{ap}
@@ -18,8 +17,8 @@ sign c = (before (c .before .before .before .before), said (c .before .before .p
 abbrev number : tie.After-number → Went × Said Bool × Was
 number c = let w = sign (c .before .before .before .before) in (w .0, w .1, was (c .before .before .count .ensures) (c .number .given .1))
 
-abbrev behind : tie.After-behind → Went × Said Bool × Was × Went
-behind c = let w = number (c .before .before .before .before) in (w .0, w .1, w .2, went (c .before .before .blank2 .ensures) (c .behind .given .1))
+abbrev after : tie.After-after → Went × Said Bool × Was × Went
+after c = let w = number (c .before .before .before .before) in (w .0, w .1, w .2, went (c .before .before .blank2 .ensures) (c .after .given .1))
 
 pub day-offset-spec : {M : Type 1} → statement M
 unfolding dayOffset
@@ -39,11 +38,12 @@ day-offset-spec =
     (λ c. search needs)  -- enum-told-3
     (λ c. let w = sign (c .before .before .before .before) in rw (w .0 .is, w .1 .is, was (c .before .before .count .ensures) (c .enum-told3 .given .1) .is))  -- returns-3
     (λ c κs. search needs)  -- blank-requires-2
-    (λ c. search needs)  -- enum-known-behind
+    (λ c. search needs)  -- enum-known-after
     (λ c. search needs)  -- enum-told-4
     (λ c. let w = number (c .before .before .before .before) in rw (w .0 .is, w .1 .is, w .2 .is, went (c .before .before .blank2 .ensures) (c .enum-told4 .given .1) .is))  -- returns-4
     (λ c κs. search needs)  -- name-requires
     (λ c. search needs)  -- enum-known-name
     (λ c. search needs)  -- enum-told-5
-    (λ c. let w = behind (c .before .before .before .before) in rw (w .0 .is, w .1 .is, w .2 .is, w .3 .is, was (c .before .before .name .ensures) (c .enum-told5 .given .1) .is))  -- returns-5
-    (λ c. let w = behind (c .before .before .before .before .before) in rw (w .0 .is, w .1 .is, w .2 .is, w .3 .is, was (c .before .before .before .name .ensures) (c .before .name2 .given .1) .is)))  -- returns-6
+    (λ c. let w = after (c .before .before .before .before) in rw (w .0 .is, w .1 .is, w .2 .is, w .3 .is, was (c .before .before .name .ensures) (c .enum-told5 .given .1) .is))  -- returns-5
+    (λ c. let w = after (c .before .before .before .before .before) in
+    rw (w .0 .is, w .1 .is, w .2 .is, w .3 .is, was (c .before .before .before .name .ensures) (c .before .name2 .given .1) .is)))  -- returns-6

@@ -1,4 +1,3 @@
--- `days::offset` meets its contract.
 use borrow.Author.Needs.{needs}
 use mathlib.Core.Path.{ap}
 use Rattle.names.proofs.Facts.{said}
@@ -17,5 +16,13 @@ offset-spec =
     (λ c κs. search needs)  -- any-days-requires
     (λ c. search needs)  -- enum-told
     (λ c κs. search needs)  -- any-days-requires-2
-    (λ c. rw (said (c .before .before .before .before .before .before .wday-offset .ensures) (ap seenWday (c .before .before .before .before .first .given .1)) .is, c .before .before .any-days .ensures))  -- returns
-    (λ c. rw (said (c .before .before .before .before .before .wday-offset .ensures) (ap seenWday (c .before .before .before .enum-told .given .1)) .is, c .before .before .any-days2 .ensures)))  -- returns-2
+    (λ c. rw (
+      said (c .before .before .before .before .before .before .wday-offset .ensures) (ap seenWday
+          (c .before .before .before .before .first .given .1)) .is,
+      c .before .before .any-days .ensures,
+    ))  -- returns
+    (λ c. rw (
+      said (c .before .before .before .before .before .wday-offset .ensures) (ap seenWday
+          (c .before .before .before .enum-told .given .1)) .is,
+      c .before .before .any-days2 .ensures,
+    )))  -- returns-2

@@ -1,4 +1,3 @@
--- `days::plus_or_minus` meets its contract.
 use borrow.Author.Needs.{needs}
 use Rattle.names.proofs.Facts.{Went, went}
 use Rattle.days.specs.Offsets.{plusOrMinus}

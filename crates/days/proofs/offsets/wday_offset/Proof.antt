@@ -1,4 +1,3 @@
--- `days::wday_offset` meets its contract.
 use borrow.Author.Needs.{needs}
 use mathlib.Core.Bool.{Bool}
 use mathlib.Core.Path.{ap}

@@ -1,4 +1,3 @@
--- `days::flagged` meets its contract.
 use borrow.Author.Tests.{eq-eqb, ne-eqb}
 use Rattle.days.specs.Weekdays.{flagged}
 use Rattle.days.proofs.weekdays.flagged.Statement.{statement}

@@ -1,4 +1,3 @@
--- `days::last_weekday` meets its contract.
 use borrow.Author.Needs.{needs}
 use native.Mathlib.Omega.{arith}
 use Rattle.names.proofs.Facts.{Went, went}

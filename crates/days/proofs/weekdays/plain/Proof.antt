@@ -1,4 +1,3 @@
--- `days::plain` meets its contract.
 use mathlib.Core.Path.{refl}
 use Rattle.days.specs.Entries.{bits}
 use Rattle.days.specs.Weekdays.{flagged, weekdayMeaning}

@@ -1,12 +1,11 @@
--- `days::weekday_item` meets its contract.
 use borrow.Author.Needs.{needs}
 use mathlib.Core.Path.{_∙_}
 use native.Mathlib.Omega.{arith}
 use Rattle.names.specs.Names.{weekday}
 use Rattle.names.specs.Names as names
 use Rattle.names.proofs.Facts.{Was, was}
-use Rattle.days.specs.Weekdays.{weekdayBehind, weekdayShape, weekdayMeaning, weekdayItem, weekdayItemBehind}
-use Rattle.records.proofs.Anywhere.{item-behind}
+use Rattle.days.specs.Weekdays.{weekdayAfter, weekdayShape, weekdayMeaning, weekdayItem, weekdayItemAfter}
+use Rattle.records.proofs.Anywhere.{item-after}
 use Rattle.days.proofs.weekdays.weekday_item.Statement.{statement}
 use Rattle.days.proofs.weekdays.weekday_item.Tie as tie
 
@@ -14,7 +13,7 @@ abbrev name : tie.After-name2 → Was
 name c = was (c .before .before .name .ensures) (c .name2 .given .1)
 
 pub weekday-item-spec : {M : Type 1} → statement M
-unfolding weekdayShape weekdayItem weekdayItemBehind
+unfolding weekdayShape weekdayItem weekdayItemAfter
 weekday-item-spec =
     tie.close
     (tie.spec
@@ -22,6 +21,7 @@ weekday-item-spec =
     (λ c. search needs)  -- enum-known-name
     (λ c. search needs)  -- enum-told
     (λ c. rw (was (c .before .before .name .ensures) (c .enum-told .given .1) .is))  -- returns
-    (λ c. omega (arith, name (c .before)))  -- cast-weekday-item-behind
-    (λ c κs. search needs)  -- weekday-item-behind-requires
-    (λ c. item-behind (names.name weekday) (weekdayBehind (c .before .before .before .before .before .before .args .m)) weekdayMeaning (name (c .before .before) .is) ∙ c .weekday-item-behind .ensures))  -- returns-2
+    (λ c. omega (arith, name (c .before)))  -- cast-weekday-item-after
+    (λ c κs. search needs)  -- weekday-item-after-requires
+    (λ c. item-after (names.name weekday) (weekdayAfter (c .before .before .before .before .before .before .args .m)) weekdayMeaning (name (c .before .before) .is)
+    ∙ c .weekday-item-after .ensures))  -- returns-2

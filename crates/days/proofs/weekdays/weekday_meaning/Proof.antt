@@ -1,4 +1,3 @@
--- `days::weekday_meaning` meets its contract.
 use borrow.Author.Needs.{needs}
 use borrow.Author.Tests.{le-leb, lt-leb}
 use Rattle.days.specs.Weekdays.{weekdayMeaning}
@@ -14,6 +13,12 @@ weekday-meaning-spec =
     (λ c κs. search needs)  -- bits-requires
     (λ c κs. search needs)  -- bits-requires-2
     (λ c κs. search needs)  -- flagged-requires
-    (λ c. rw (c .before .before .before .before .before .before .before .before .if1 .taken, le-leb _ 32767 (c .before .before .before .before .before .before .if2 .taken), ← c .before .before .bits .ensures, ← c .before .bits2 .ensures) (c .flagged .ensures))  -- returns
+    (λ c. rw (
+      c .before .before .before .before .before .before .before .before .if1 .taken,
+      le-leb _ 32767
+          (c .before .before .before .before .before .before .if2 .taken),
+      ← c .before .before .bits .ensures,
+      ← c .before .bits2 .ensures,
+    ) (c .flagged .ensures))  -- returns
     (λ c. rw (c .before .before .if1 .taken, lt-leb _ 32767 (c .if2 .left)))  -- returns-2
     (λ c. rw (c .if1 .left)))  -- returns-3

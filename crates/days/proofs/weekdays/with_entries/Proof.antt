@@ -1,4 +1,3 @@
--- `days::with_entries` meets its contract.
 use borrow.Author.Needs.{needs}
 use mathlib.Core.Path.{ap}
 use Rattle.names.proofs.Facts.{Said, said}

@@ -1,4 +1,3 @@
--- `feed::keep_answer` meets its contract.
 use borrow.Author.Needs.{needs}
 use Rattle.feed.proofs.answers.keep_answer.Statement.{statement}
 use Rattle.feed.proofs.answers.keep_answer.Tie as tie

@@ -1,4 +1,3 @@
--- `feed::store_bytes` meets its contract.
 use borrow.Author.Needs.{needs}
 use Prim.Native.Nat.{_*_}
 use denote.Ref.{now}
@@ -23,5 +22,7 @@ store-bytes-spec =
     (λ c. search needs)  -- cast-put-word-4
     (λ c κs. search needs)  -- put-word-requires-4
     (λ c. search needs)  -- same-length
-    (λ c. let z = c .before .before in let y = z .before .before .before .before .before in let x = y .before .before .before .before .before in let w = x .before .before .before .before .before in let a = w .before .before .before .before .args in
-    rw (z .put-word4 .ensures, y .put-word3 .ensures, x .put-word2 .ensures, w .put-word .ensures) (four-words (now (a .table)) (a .slot * 16) (a .a .number) (a .a .place) (a .a .records) (a .a .warnings))))  -- returns
+    (λ c. let z = c .before .before in let y = z .before .before .before .before .before in let x = y .before .before .before .before .before in
+    let w = x .before .before .before .before .before in let a = w .before .before .before .before .args in
+    rw (z .put-word4 .ensures, y .put-word3 .ensures, x .put-word2 .ensures, w .put-word .ensures) (four-words (now (a .table)) (a .slot * 16) (a .a .number)
+    (a .a .place) (a .a .records) (a .a .warnings))))  -- returns

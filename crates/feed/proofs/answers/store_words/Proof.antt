@@ -1,4 +1,3 @@
--- `feed::store_words` meets its contract.
 use borrow.Author.Needs.{needs}
 use native.Mathlib.Omega.{arith}
 use native.Mathlib.Numerals.{towards-suc}
@@ -30,4 +29,11 @@ store-words-spec =
     (λ c. simp length-set (omega arith))  -- slice-set-from-table-4
     (λ c. search needs)  -- same-length
     (λ c. let a = c .before .before .before .before .args .a in
-    simp (towards-suc, toZ-pos w32 {n = a .number} (omega arith), toZ-pos w32 {n = a .place} (omega arith), toZ-pos w32 {n = a .records} (omega arith), toZ-pos w32 {n = a .warnings} (omega arith))))  -- returns
+    simp (
+      towards-suc,
+      toZ-pos w32 {n = a .number} (omega arith),
+      toZ-pos w32 {n = a .place} (omega arith),
+      toZ-pos w32 {n = a .records}
+          (omega arith),
+      toZ-pos w32 {n = a .warnings} (omega arith),
+    )))  -- returns

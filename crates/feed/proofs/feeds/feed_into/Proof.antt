@@ -1,4 +1,3 @@
--- `feed::feed_into` meets its contract.
 use borrow.Author.Needs.{needs}
 use native.Mathlib.Omega.{arith}
 use mathlib.Core.Path.{_∙_}
@@ -20,4 +19,5 @@ feed-into-spec =
     (λ c. search needs)  -- same-length-3
     (λ c. search needs)  -- same-length-4
     (λ c. let r = c .before .before .before .before .before .before in let i = r .before .before .before .before .before in let n = i .before in let a = n .before .before .before .before .args in
-    r .lines-into .ensures ∙ feed-lines (now (a .answer-words), now (a .answer-bytes)) (now (a .words), now (a .bytes)) (now (a .feed)) (a .places) (a .size) (omega (arith, i .if1 .left, n .lines-in .ensures))))  -- returns-2
+    r .lines-into .ensures ∙ feed-lines (now (a .answer-words), now (a .answer-bytes)) (now (a .words), now (a .bytes)) (now (a .feed)) (a .places) (a .size) (omega
+    (arith, i .if1 .left, n .lines-in .ensures))))  -- returns-2

@@ -1,4 +1,3 @@
--- `feed::free_from` meets its contract.
 use borrow.Author.Needs.{needs}
 use borrow.Author.Tests.{lt-ltb, le-ltb}
 use Prim.Native.Nat.{_/_}

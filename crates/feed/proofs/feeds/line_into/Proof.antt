@@ -1,4 +1,3 @@
--- `feed::line_into` meets its contract.
 use borrow.Author.Needs.{needs}
 use denote.Ref.{now}
 use Rattle.sheet.specs.Sheets.{sheetOf}
@@ -23,4 +22,5 @@ line-into-spec =
     (λ c. search needs)  -- same-length
     (λ c. search needs)  -- same-length-2
     (λ c. let r = c .before .before .before in let g = r .before .before .before in let f = g .before in let a = f .before .before .before .args in
-    line-from (now (a .words)) (now (a .bytes)) (a .slot) (f .free-from .result) (g .free-from2 .result) (sheetOf (now (a .line)) (a .size)) (f .free-from .ensures) (g .free-from2 .ensures) (r .sheet-into .ensures)))  -- returns
+    line-from (now (a .words)) (now (a .bytes)) (a .slot) (f .free-from .result) (g .free-from2 .result) (sheetOf (now (a .line)) (a .size)) (f .free-from .ensures)
+    (g .free-from2 .ensures) (r .sheet-into .ensures)))  -- returns

@@ -1,4 +1,4 @@
--- `feed::lines_into` meets its contract: line by line.
+-- Line by line.
 use borrow.Author.Needs.{needs}
 use Prim.Native.Nat.{_*_, _-_, _≤_}
 use native.Mathlib.Omega.{arith}
@@ -17,7 +17,8 @@ abbrev Inv-loop : tie.InvT-loop
 Inv-loop feed size answer-words₀ answer-bytes₀ words₀ bytes₀ n₀ records₀ at₀ answer-words answer-bytes words bytes n records at =
     (n ≤ at) × (at ≤ length feed) × (records * 16 ≤ size)
     × (length answer-words ≡ length answer-words₀) × (length answer-bytes ≡ length answer-bytes₀) × (length words ≡ length words₀) × (length bytes ≡ length bytes₀)
-    × (feedInto (answer-words₀, answer-bytes₀) (words₀, bytes₀) (allOf (readings (lines feed) size)) ≡ upTo (answer-words, answer-bytes) (words, bytes) n records (readings (lines (drop at feed)) (size - records * 16)))
+    × (feedInto (answer-words₀, answer-bytes₀) (words₀, bytes₀) (allOf (readings (lines feed) size)) ≡ upTo (answer-words, answer-bytes) (words, bytes) n records
+    (readings (lines (drop at feed)) (size - records * 16)))
 
 abbrev μ-loop : tie.MeasureT-loop
 μ-loop feed size answer-words₀ answer-bytes₀ words₀ bytes₀ n₀ records₀ at₀ answer-words answer-bytes words bytes n records at = length feed - at
@@ -25,10 +26,13 @@ abbrev μ-loop : tie.MeasureT-loop
 -- to the next line
 next : (c : tie.After-after-line Inv-loop μ-loop) → let i = c .before .before .before .before .before .before .before .before .before .before .before .before .before .before .before in
     Turn (now (i .before .before .before .before .before .before .args .feed)) (i .before .before .loop .at) (i .line-end .result) (c .after-line .result)
-next c = let i = c .before .before .before .before .before .before .before .before .before .before .before .before .before .before .before in turn _ _ (i .before .loop-test .taken) (i .line-end .ensures) (c .after-line .ensures)
+next c =
+    let i = c .before .before .before .before .before .before .before .before .before .before .before .before .before .before .before in
+    turn _ _ (i .before .loop-test .taken) (i .line-end .ensures) (c .after-line .ensures)
 
 -- a line was read
-told-of : (c : tie.After-line-into Inv-loop μ-loop) → let l = c .before .before .before .before .before .before in Told (l .loop .records) (l .before .before .before .before .args .size) (c .line-into .result)
+told-of : (c : tie.After-line-into Inv-loop μ-loop) → let l = c .before .before .before .before .before .before in
+    Told (l .loop .records) (l .before .before .before .before .args .size) (c .line-into .result)
 told-of c = let l = c .before .before .before .before .before .before in told _ (l .loop .records) (l .before .before .before .before .args .size) _ (l .loop .inv .2) (c .line-into .ensures)
 
 pub lines-into-spec : {M : Type 1} → statement M

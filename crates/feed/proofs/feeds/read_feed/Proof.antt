@@ -1,4 +1,3 @@
--- `feed::read_feed` meets its contract.
 use borrow.Author.Needs.{needs}
 use Prim.Native.Nat.{_/_}
 use mathlib.Core.List.{[]}

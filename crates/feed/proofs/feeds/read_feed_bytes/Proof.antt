@@ -1,4 +1,3 @@
--- `feed::read_feed_bytes` meets its contract.
 use borrow.Author.Needs.{needs}
 use Prim.Native.Nat.{_/_}
 use mathlib.Core.List.{[]}
@@ -21,5 +20,6 @@ read-feed-bytes-spec =
     (λ c κs. search needs)  -- feed-into-requires
     (λ c. search needs)  -- same-length
     (λ c. search needs)  -- same-length-2
-    (λ c. let r = c .before .before .before .before .before .before in let a = r .before .before .before .before .before .before .before .before .args in let p = length (now (a .answers)) / 16 in let n = wordsIn (length (now (a .table))) in
+    (λ c. let r = c .before .before .before .before .before .before in let a = r .before .before .before .before .before .before .before .before .args in
+    let p = length (now (a .answers)) / 16 in let n = wordsIn (length (now (a .table))) in
     in-bytes ([], now (a .answers)) ([], now (a .table)) (feedOf (now (a .feed)) p n) (r .feed-into .ensures) (feed-fits (now (a .feed)) p n)))  -- returns

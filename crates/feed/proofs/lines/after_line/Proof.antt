@@ -1,4 +1,3 @@
--- `feed::after_line` meets its contract.
 use borrow.Author.Needs.{needs}
 use borrow.Author.Tests.{lt-ltb, le-ltb}
 use Rattle.feed.proofs.lines.after_line.Statement.{statement}

@@ -1,4 +1,4 @@
--- `feed::line_end` meets its contract: byte by byte.
+-- Byte by byte.
 use borrow.Author.Needs.{needs}
 use Prim.Native.Nat.{_-_, _≤_}
 use mathlib.Core.Path.{_≡_, refl, sym, _∙_}

@@ -1,4 +1,4 @@
--- `feed::lines_in` meets its contract: line by line.
+-- Line by line.
 use borrow.Author.Needs.{needs}
 use Prim.Native.Nat.{_+_, _-_, _≤_}
 use native.Mathlib.Omega.{arith}

@@ -1,4 +1,3 @@
--- `items::kinds::either` meets its contract.
 use borrow.Author.Needs.{needs}
 use Rattle.items.proofs.kinds.either.Statement.{statement}
 use Rattle.items.proofs.kinds.either.Tie as tie

@@ -1,4 +1,3 @@
--- `items::kinds::has` meets its contract.
 use borrow.Author.Needs.{needs}
 use Rattle.items.specs.Sets.{has}
 use Rattle.items.proofs.kinds.has.Statement.{statement}

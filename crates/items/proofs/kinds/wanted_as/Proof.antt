@@ -1,4 +1,4 @@
--- `items::kinds::wanted_as` meets its contract: of the set's kinds, those that begin with no such name count for nothing.
+-- Of the set's kinds, those that begin with no such name count for nothing.
 use borrow.Author.Needs.{needs}
 use mathlib.Core.Logic.{⊎-elim, inl, inr}
 use mathlib.Core.Path.{sym, _∙_}

@@ -1,4 +1,3 @@
--- `items::kinds::wish` meets its contract.
 use borrow.Author.Needs.{needs}
 use Rattle.items.proofs.kinds.wish.Statement.{statement}
 use Rattle.items.proofs.kinds.wish.Tie as tie

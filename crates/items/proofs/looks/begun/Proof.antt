@@ -1,4 +1,3 @@
--- `items::looks::begun` meets its contract.
 use borrow.Author.Needs.{needs}
 use borrow.Author.Tests.{eq-eqb, ne-eqb}
 use native.Mathlib.Omega.{arith}
@@ -12,16 +11,16 @@ unfolding afterName
 begun-spec =
     tie.close
     (tie.spec
-    (λ c κs. search needs)  -- weekday-item-behind-requires
-    (λ c κs. search needs)  -- month-day-item-behind-requires
-    (λ c κs. search needs)  -- event-item-behind-requires
-    (λ c κs. search needs)  -- holiday-item-behind-requires
-    (λ c κs. search needs)  -- week-apart-requires
+    (λ c κs. search needs)  -- weekday-item-after-requires
+    (λ c κs. search needs)  -- month-day-item-after-requires
+    (λ c κs. search needs)  -- event-item-after-requires
+    (λ c κs. search needs)  -- holiday-item-after-requires
+    (λ c κs. search needs)  -- week-after-blank-requires
     (λ c κs. search needs)  -- must-requires
-    (λ c. rw (c .before .match .keys1) (c .weekday-item-behind .ensures))  -- returns
-    (λ c. ⊎-elim (λ e. rw e (rw e at (c .month-day-item-behind .ensures))) (λ e. rw e (rw e at (c .month-day-item-behind .ensures))) (c .before .match .keys2))  -- returns-2
-    (λ c. rw (c .before .match .keys3) (c .event-item-behind .ensures))  -- returns-3
-    (λ c. rw (c .before .match .keys4) (c .holiday-item-behind .ensures))  -- returns-4
-    (λ c. rw (c .before .before .match .keys5, c .before .week-apart .ensures) (c .must .ensures))  -- returns-5
+    (λ c. rw (c .before .match .keys1) (c .weekday-item-after .ensures))  -- returns
+    (λ c. ⊎-elim (λ e. rw e (rw e at (c .month-day-item-after .ensures))) (λ e. rw e (rw e at (c .month-day-item-after .ensures))) (c .before .match .keys2))  -- returns-2
+    (λ c. rw (c .before .match .keys3) (c .event-item-after .ensures))  -- returns-3
+    (λ c. rw (c .before .match .keys4) (c .holiday-item-after .ensures))  -- returns-4
+    (λ c. rw (c .before .before .match .keys5, c .before .week-after-blank .ensures) (c .must .ensures))  -- returns-5
     (λ c. let r = c .match .rest in let d = r .0 .0 .0 .1 in
     rw (ne-eqb _ 1 (r .0 .0 .0 .0 .1), ne-eqb _ 2 (λ e. d (inl e)), ne-eqb _ 4 (λ e. d (inr e)), ne-eqb _ 3 (r .0 .0 .1), ne-eqb _ 6 (r .0 .1), ne-eqb _ 7 (r .1))))  -- returns-6

@@ -1,4 +1,3 @@
--- `items::looks::found` meets its contract.
 use borrow.Author.Needs.{needs}
 use mathlib.Core.Path.{ap}
 use Rattle.records.specs.Seen.{seenItem}

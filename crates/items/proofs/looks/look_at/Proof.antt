@@ -1,4 +1,3 @@
--- `items::looks::look_at` meets its contract.
 use borrow.Author.Needs.{needs}
 use Rattle.names.proofs.Facts.{named}
 use Rattle.items.proofs.looks.look_at.Statement.{statement}

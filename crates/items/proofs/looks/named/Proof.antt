@@ -1,4 +1,3 @@
--- `items::looks::named` meets its contract.
 use borrow.Author.Needs.{needs}
 use mathlib.Core.Path.{_≡_, sym, ap, _∙_}
 use Rattle.records.specs.Seen.{seenItem}
@@ -31,5 +30,10 @@ named-spec =
     (λ c. search needs)  -- enum-known-item-2
     (λ c. let i = c .before .before in let b = i .before .before in
     wished-item _ _ _ (start b .pre) _ (wish b) (b .begun .ensures ∙ ap seenItem (i .item .given .1)) ∙ rw (c .place-of .ensures))  -- returns-2
-    (λ c. (wished-none _ _ _ (start (c .before .before) .pre) _ (wish (c .before .before)) (c .before .before .begun .ensures ∙ ap seenItem (c .enum-told2 .given .1)), start (c .before .before) .pre))  -- returns-3
-    (λ c. wished-refused _ _ _ (start (c .before .before .before) .pre) _ (wish (c .before .before .before)) (c .before .before .before .begun .ensures ∙ ap seenItem (c .before .item2 .given .1))))  -- returns-4
+    (λ c. (
+      wished-none _ _ _ (start (c .before .before) .pre) _ (wish (c .before .before)) (c .before .before .begun .ensures
+          ∙ ap seenItem (c .enum-told2 .given .1)),
+      start (c .before .before) .pre,
+    ))  -- returns-3
+    (λ c. wished-refused _ _ _ (start (c .before .before .before) .pre) _ (wish (c .before .before .before)) (c .before .before .before .begun .ensures
+    ∙ ap seenItem (c .before .item2 .given .1))))  -- returns-4

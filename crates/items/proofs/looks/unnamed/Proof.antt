@@ -1,4 +1,3 @@
--- `items::looks::unnamed` meets its contract.
 use borrow.Author.Needs.{needs}
 use Rattle.items.proofs.Finding.{yearly-stands, numbered-stands}
 use Rattle.items.proofs.looks.unnamed.Statement.{statement}

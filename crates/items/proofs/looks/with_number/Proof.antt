@@ -1,4 +1,3 @@
--- `items::looks::with_number` meets its contract.
 use borrow.Author.Needs.{needs}
 use mathlib.Core.List.{[], _∷_}
 use mathlib.Core.Path.{sym, _∙_}
@@ -25,4 +24,5 @@ with-number-spec =
     finds (c .found .result) (pick-after _ _ _ _ Times (WeekNumbers ∷ []) (d .time .result) (d .time .ensures) (e .enum-told .given .1))
     (finds-one _ _ _ _ WeekNumbers (c .found .result) (sym (h .before .has .ensures) ∙ h .if1 .taken) (item-at _ _ (w .week-item .ensures)) (c .found .ensures)))  -- returns-2
     (λ c. let e = c .before .before in let d = e .before .before in
-    pick-after _ _ _ _ Times (WeekNumbers ∷ []) (d .time .result) (d .time .ensures) (e .enum-told .given .1) ∙ pick-not _ _ _ _ WeekNumbers (sym (c .before .has .ensures) ∙ c .if1 .left)))  -- returns-3
+    pick-after _ _ _ _ Times (WeekNumbers ∷ []) (d .time .result) (d .time .ensures) (e .enum-told .given .1)
+    ∙ pick-not _ _ _ _ WeekNumbers (sym (c .before .has .ensures) ∙ c .if1 .left)))  -- returns-3

@@ -1,4 +1,3 @@
--- `items::looks::with_year` meets its contract.
 use borrow.Author.Needs.{needs}
 use mathlib.Core.List.{[], _∷_}
 use mathlib.Core.Path.{sym, _∙_}
@@ -19,10 +18,12 @@ with-year-spec =
     (λ c. search needs)  -- enum-told
     (λ c m. finds-before _ _ _ _ MonthDays (Years ∷ []) (c .before .month-day .result) (c .before .month-day .ensures m) (c .match .keys2))  -- returns
     (λ c κs. search needs)  -- has-requires
-    (λ c κs. search needs)  -- year-item-behind-requires
+    (λ c κs. search needs)  -- year-item-after-requires
     (λ c κs. search needs)  -- found-requires
     (λ c m. let w = c .before in let h = w .before in let e = h .before .before in let d = e .before .before in
     finds (c .found .result) (pick-after _ _ _ _ MonthDays (Years ∷ []) (d .month-day .result) (d .month-day .ensures m) (e .enum-told .given .1))
-    (finds-one _ _ _ _ Years (c .found .result) (sym (h .before .has .ensures) ∙ h .if1 .taken) (item-at _ _ (year-item _ _ (d .before .before .pre) ∙ w .year-item-behind .ensures)) (c .found .ensures)))  -- returns-2
+    (finds-one _ _ _ _ Years (c .found .result) (sym (h .before .has .ensures) ∙ h .if1 .taken) (item-at _ _ (year-item _ _ (d .before .before .pre)
+    ∙ w .year-item-after .ensures)) (c .found .ensures)))  -- returns-2
     (λ c m. let e = c .before .before in let d = e .before .before in
-    pick-after _ _ _ _ MonthDays (Years ∷ []) (d .month-day .result) (d .month-day .ensures m) (e .enum-told .given .1) ∙ pick-not _ _ _ _ Years (sym (c .before .has .ensures) ∙ c .if1 .left)))  -- returns-3
+    pick-after _ _ _ _ MonthDays (Years ∷ []) (d .month-day .result) (d .month-day .ensures m) (e .enum-told .given .1)
+    ∙ pick-not _ _ _ _ Years (sym (c .before .has .ensures) ∙ c .if1 .left)))  -- returns-3

@@ -1,4 +1,4 @@
--- `items::looks::year_first` meets its contract: without a year no item that begins with one stands there.
+-- Without a year no item that begins with one stands there.
 use borrow.Author.Needs.{needs}
 use native.Mathlib.Omega.{arith}
 use mathlib.Core.Bool.{_||_}

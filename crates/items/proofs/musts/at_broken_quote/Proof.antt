@@ -1,4 +1,3 @@
--- `items::musts::at_broken_quote` meets its contract.
 use borrow.Author.Needs.{needs}
 use native.Mathlib.Omega.{arith}
 use mathlib.Core.Path.{sym, ap, _∙_}
@@ -16,7 +15,8 @@ at-broken-quote-spec =
     (λ c κs. search needs)  -- byte-requires
     (λ c. let a = c .before .before .before .args in let h = inside (now (a .s)) (a .at) (λ q. omega (arith, c .before .byte .ensures, c .if1 .taken, q)) in omega (arith, h))  -- add-t8
     (λ c κs. search needs)  -- byte-requires-2
-    (λ c. let t = c .before .before in let a = t .before .before .before .args in let h = inside (now (a .s)) (a .at) (λ q. omega (arith, t .before .byte .ensures, t .if1 .taken, q)) in omega (arith, h))  -- add-has-quote
+    (λ c. let t = c .before .before in let a = t .before .before .before .args in
+    let h = inside (now (a .s)) (a .at) (λ q. omega (arith, t .before .byte .ensures, t .if1 .taken, q)) in omega (arith, h))  -- add-has-quote
     (λ c κs. search needs)  -- has-quote-requires
     (λ c. let t = c .before .before in sym (broken-two _ _ (sym (t .before .byte .ensures) ∙ t .if1 .taken) (sym (c .before .byte2 .ensures) ∙ c .if2 .taken)))  -- returns
     (λ c. let e = c .before in let t = e .before .before in

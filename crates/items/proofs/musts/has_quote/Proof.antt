@@ -1,4 +1,4 @@
--- `items::musts::has_quote` meets its contract: no quote stands in what was passed.
+-- No quote stands in what was passed.
 use Prim.Native.Nat.{_-_}
 use borrow.Author.Needs.{needs}
 use native.Mathlib.Omega.{arith}

@@ -1,4 +1,3 @@
--- `items::musts::missing` meets its contract.
 use borrow.Author.Needs.{needs}
 use mathlib.Core.Path.{sym, _∙_}
 use Rattle.items.specs.Musts.{missingAt}

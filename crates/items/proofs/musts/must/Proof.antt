@@ -1,4 +1,3 @@
--- `items::musts::must` meets its contract.
 use borrow.Author.Needs.{needs}
 use mathlib.Core.Path.{refl}
 use Rattle.records.specs.declared.Item.{Item}

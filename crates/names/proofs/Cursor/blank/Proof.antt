@@ -1,4 +1,3 @@
--- `names::Cursor::blank` meets its contract.
 use borrow.Author.Needs.{needs}
 use Rattle.names.specs.Texts.{blank}
 use Rattle.names.proofs.Facts.{Went, went}

@@ -1,4 +1,3 @@
--- `names::Cursor::blanks` meets its contract.
 use Prim.Native.Nat.{ℕ}
 use mathlib.Core.Bool.{Bool}
 use borrow.Author.Needs.{needs}

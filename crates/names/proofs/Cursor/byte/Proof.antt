@@ -1,4 +1,3 @@
--- `names::Cursor::byte` meets its contract.
 use borrow.Author.Needs.{needs}
 use mathlib.Core.Path.{sym}
 use denote.Ref.{now}

@@ -1,4 +1,3 @@
--- `names::Cursor::digit` meets its contract.
 use borrow.Author.Needs.{needs}
 use native.Mathlib.Omega.{arith}
 use mathlib.Core.Bool.{true}
@@ -24,5 +23,18 @@ digit-spec =
     (λ c. omega (arith, within-range 48 57 (c .before .before .byte .result) (is c)))  -- sub-t7
     (λ c. search needs)  -- cast-t8
     (λ c. let a = c .before .before .before .before .args in omega (arith, inside (now (a .s)) (a .self .at) (omega (arith, within-range 48 57 (c .before .before .byte .result) (is c)))))  -- add-t9
-    (λ c. let a = c .before .before .before .before .args in record { is = rw (one-is isDigit refl (now (a .s)) (a .self .at) (c .before .before .byte .ensures) (is c)); small = omega (arith, within-range 48 57 (c .before .before .byte .result) (is c)) })  -- returns
-    (λ c. let a = c .before .before .before .before .args in record { is = rw (one-is isDigit refl (now (a .s)) (a .self .at) (c .before .before .byte .ensures) (sym (c .before .is-digit .ensures) ∙ c .if1 .left)); small = search needs }))  -- returns-2
+    (λ c. let a = c .before .before .before .before .args in
+    record {
+      is = rw (one-is isDigit refl (now (a .s)) (a .self .at) (c .before .before .byte .ensures) (is c));
+      small = omega (
+        arith,
+        within-range 48 57
+            (c .before .before .byte .result) (is c),
+      );
+    })  -- returns
+    (λ c. let a = c .before .before .before .before .args in
+    record {
+      is = rw (one-is isDigit refl (now (a .s)) (a .self .at) (c .before .before .byte .ensures) (sym (c .before .is-digit .ensures)
+          ∙ c .if1 .left));
+      small = search needs;
+    }))  -- returns-2

@@ -1,4 +1,3 @@
--- `names::Cursor::digits` meets its contract.
 use Prim.Native.Nat.{ℕ, _-_, _≤_, _<_, _^_}
 use borrow.Author.Needs.{needs}
 use native.Mathlib.Omega.{arith}
@@ -41,11 +40,18 @@ digits-spec =
     (λ c. let l = c .before .before .before .before .before in
     record {
       is = sym (l .loop .inv .2) ∙ digit-none _ _ (l .loop .n) (l .loop .sum) _ (l .loop .at) (omega arith) (missing (c .before) .is) ∙ c .enough .ensures;
-      small = omega (arith, enough-small (l .before .before .args .least - l .loop .n) (l .loop .sum) (l .loop .at) (c .enough .result) (c .enough .ensures), below (l .loop .n) (l .before .before .args .most) (l .loop .sum) (l .loop .inv .0) (l .loop .inv .1));
+      small =
+          omega (
+            arith,
+            enough-small (l .before .before .args .least - l .loop .n) (l .loop .sum) (l .loop .at) (c .enough .result) (c .enough .ensures),
+            below
+                (l .loop .n) (l .before .before .args .most) (l .loop .sum) (l .loop .inv .0) (l .loop .inv .1),
+          );
     })  -- returns
     (λ c. search needs)  -- add-n
     (λ c. let l = c .before .before .before .before .before in omega (arith, few (c .before .before .before .before .loop-test .taken) (l .before .before .pre) (l .loop .inv .1)))  -- mul-sum
-    (λ c. let l = c .before .before .before .before .before in omega (arith, next (c .before), few (c .before .before .before .before .loop-test .taken) (l .before .before .pre) (l .loop .inv .1)))  -- add-sum
+    (λ c. let l = c .before .before .before .before .before in
+    omega (arith, next (c .before), few (c .before .before .before .before .loop-test .taken) (l .before .before .pre) (l .loop .inv .1)))  -- add-sum
     (λ c. search needs)  -- loop-less
     (λ c. let l = c .before .before .before .before .before in let w = next (c .before) in
     (omega arith, grown _ _ _ (l .loop .inv .1) (w .small), sym (digit-more _ _ (l .loop .n) (l .loop .sum) _ (l .loop .at) (omega arith) (w .is)) ∙ l .loop .inv .2))  -- loop-again
@@ -53,5 +59,11 @@ digits-spec =
     (λ c. let l = c .before .before in
     record {
       is = sym (l .loop .inv .2) ∙ digits-full _ _ (l .loop .n) (l .loop .sum) _ (l .loop .at) (omega arith) ∙ c .enough2 .ensures;
-      small = omega (arith, enough-small (l .before .before .args .least - l .loop .n) (l .loop .sum) (l .loop .at) (c .enough2 .result) (c .enough2 .ensures), below (l .loop .n) (l .before .before .args .most) (l .loop .sum) (l .loop .inv .0) (l .loop .inv .1));
+      small =
+          omega (
+            arith,
+            enough-small (l .before .before .args .least - l .loop .n) (l .loop .sum) (l .loop .at) (c .enough2 .result) (c .enough2 .ensures),
+            below
+                (l .loop .n) (l .before .before .args .most) (l .loop .sum) (l .loop .inv .0) (l .loop .inv .1),
+          );
     }))  -- returns-2

@@ -1,4 +1,4 @@
--- `names::Cursor::four` meets its contract: its lists of names, one after another, are the group of the definition.
+-- Its lists of names, one after another, are the group of the definition.
 use borrow.Author.Needs.{needs}
 use mathlib.Core.Path.{refl}
 use Rattle.names.specs.Tests.{within}
@@ -24,4 +24,7 @@ four-spec =
     (λ c κs. search needs)  -- or-one-of-requires-4
     (λ c. search needs)  -- slice-aggregate-or-one-of-5
     (λ c κs. search needs)  -- or-one-of-requires-5
-    (λ c. and-more _ _ (and-more _ _ (and-more _ _ (and-more _ _ (begun _ _ refl (c .before .before .before .before .before .before .before .before .or-one-of .ensures)) _ refl (c .before .before .before .before .before .before .or-one-of2 .ensures)) _ refl (c .before .before .before .before .or-one-of3 .ensures)) _ refl (c .before .before .or-one-of4 .ensures)) _ refl (c .or-one-of5 .ensures) .is))  -- returns
+    (λ c. and-more _ _ (and-more _ _ (and-more _ _ (and-more _ _ (begun _ _ refl
+    (c .before .before .before .before .before .before .before .before .or-one-of .ensures)) _ refl
+    (c .before .before .before .before .before .before .or-one-of2 .ensures)) _ refl (c .before .before .before .before .or-one-of3 .ensures)) _ refl
+    (c .before .before .or-one-of4 .ensures)) _ refl (c .or-one-of5 .ensures) .is))  -- returns

@@ -1,4 +1,4 @@
--- `names::Cursor::or_one_of` meets its contract: what is left to search gives what the whole search gives.
+-- What is left to search gives what the whole search gives.
 use Prim.Native.Nat.{_+_, _-_}
 use borrow.Author.Needs.{needs}
 use native.Mathlib.Omega.{arith}
@@ -52,7 +52,9 @@ or-one-of-spec =
     (λ c. omega (arith, c .before .before .before .before .loop .inv))  -- shared-slice-read-if3
     (λ c. omega (arith, c .before .before .before .before .before .loop .inv))  -- add-j
     (λ c. omega (arith, c .before .before .before .before .before .loop .inv))  -- loop-less
-    (λ c. let l = c .before .before .before .before .before in same _ _ _ _ _ _ (l .loop .inv) (omega arith) (ap (compared _) (sym (c .before .before .before .byte .ensures)) ∙ sym (c .before .before .letter .ensures) ∙ c .if3 .left))  -- loop-again
+    (λ c. let l = c .before .before .before .before .before in
+    same _ _ _ _ _ _ (l .loop .inv) (omega arith) (ap (compared _) (sym (c .before .before .before .byte .ensures)) ∙ sym (c .before .before .letter .ensures)
+    ∙ c .if3 .left))  -- loop-again
     (λ c. omega (arith, c .before .before .before .before .before .loop .inv))  -- add-value
     (λ c. omega arith)  -- add-from
     (λ c. omega (arith, c .before .before .before .before .before .loop .inv))  -- add-from-2

@@ -1,4 +1,4 @@
--- `names::Cursor::seven` meets its contract: its lists of names, one after another, are the group of the definition.
+-- Its lists of names, one after another, are the group of the definition.
 use borrow.Author.Needs.{needs}
 use mathlib.Core.Path.{refl}
 use Rattle.names.specs.Tests.{within}

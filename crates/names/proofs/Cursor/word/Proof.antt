@@ -1,4 +1,4 @@
--- `names::Cursor::word` meets its contract: the groups, the longest first, are the names of the definition.
+-- The groups, the longest first, are the names of the definition.
 use Prim.Native.Nat.{_<_}
 use borrow.Author.Needs.{needs}
 use native.Mathlib.Omega.{arith}
@@ -44,10 +44,32 @@ word-spec =
     (λ c κs. starts (c .before .before .before .before .before .before))  -- four-requires
     (λ c. search needs)  -- enum-told-5
     (λ c. search needs)  -- enum-told-6
-    (λ c. rw (by-groups _ _, no-seven (c .before .before .before .before .before .before) .is, no-six (c .before .before .before) .is, c .before .before .four .ensures, c .enum-told6 .given .1))  -- returns-4
+    (λ c. rw (
+      by-groups _ _,
+      no-seven (c .before .before .before .before .before .before) .is,
+      no-six
+          (c .before .before .before) .is,
+      c .before .before .four .ensures,
+      c .enum-told6 .given .1,
+    ))  -- returns-4
     (λ c κs. starts (c .before .before .before .before .before .before .before .before .before))  -- three-requires
     (λ c. search needs)  -- enum-told-7
     (λ c. search needs)  -- enum-told-8
-    (λ c. rw (by-groups _ _, no-seven (c .before .before .before .before .before .before .before .before .before) .is, no-six (c .before .before .before .before .before .before) .is, no-four (c .before .before .before) .is, c .before .before .three .ensures, c .enum-told8 .given .1))  -- returns-5
+    (λ c. rw (
+      by-groups _ _,
+      no-seven (c .before .before .before .before .before .before .before .before .before) .is,
+      no-six
+          (c .before .before .before .before .before .before) .is,
+      no-four (c .before .before .before) .is,
+      c .before .before .three .ensures,
+      c .enum-told8 .given .1,
+    ))  -- returns-5
     (λ c κs. starts (c .before .before .before .before .before .before .before .before .before .before .before .before))  -- two-requires
-    (λ c. rw (by-groups _ _, no-seven (c .before .before .before .before .before .before .before .before .before .before) .is, no-six (c .before .before .before .before .before .before .before) .is, no-four (c .before .before .before .before) .is, no-three (c .before) .is) (c .two .ensures)))  -- returns-6
+    (λ c. rw (
+      by-groups _ _,
+      no-seven (c .before .before .before .before .before .before .before .before .before .before) .is,
+      no-six
+          (c .before .before .before .before .before .before .before) .is,
+      no-four (c .before .before .before .before) .is,
+      no-three (c .before) .is,
+    ) (c .two .ensures)))  -- returns-6

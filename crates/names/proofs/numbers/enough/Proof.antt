@@ -1,4 +1,3 @@
--- `names::numbers::enough` meets its contract.
 use Prim.Native.Nat.{_-_}
 use borrow.Author.Tests.{eq-eqb, ne-eqb}
 use native.Mathlib.Omega.{arith}

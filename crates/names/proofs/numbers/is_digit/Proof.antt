@@ -1,4 +1,3 @@
--- `names::numbers::is_digit` meets its contract.
 use borrow.Author.Needs.{needs}
 use Rattle.names.specs.Numbers.{isDigit}
 use Rattle.names.proofs.numbers.is_digit.Statement.{statement}

@@ -1,4 +1,3 @@
--- `names::spelt` meets its contract.
 use borrow.Author.Needs.{needs}
 use Rattle.names.proofs.spellings.spelt.Statement.{statement}
 use Rattle.names.proofs.spellings.spelt.Tie as tie

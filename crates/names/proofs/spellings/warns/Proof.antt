@@ -1,4 +1,3 @@
--- `names::warns` meets its contract.
 use Prim.Native.Nat.{ℕ, _<_}
 use borrow.Author.Needs.{needs}
 use mathlib.Core.Bool.{Bool, true, false}

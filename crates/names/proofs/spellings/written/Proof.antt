@@ -1,4 +1,3 @@
--- `names::spellings::written` meets its contract.
 use borrow.Author.Needs.{needs}
 use mathlib.Core.Path.{sym, _∙_}
 use Rattle.names.specs.Spellings.{written}

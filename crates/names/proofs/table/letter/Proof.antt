@@ -1,4 +1,3 @@
--- `names::table::letter` meets its contract.
 use borrow.Author.Tests.{le-leb, lt-leb}
 use native.Mathlib.Omega.{arith}
 use Rattle.names.specs.Names.{spelledSo}

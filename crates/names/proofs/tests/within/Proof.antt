@@ -1,4 +1,3 @@
--- `names::within` meets its contract.
 use borrow.Author.Tests.{le-leb, lt-leb}
 use Rattle.names.specs.Tests.{within}
 use Rattle.names.proofs.tests.within.Statement.{statement}

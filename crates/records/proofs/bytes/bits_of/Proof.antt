@@ -1,4 +1,3 @@
--- `records::bits_of` meets its contract.
 use native.Mathlib.Omega.{arith}
 use mir.Facts.{fits-ofZ}
 use Rattle.records.proofs.Stores.{plain, turned}

@@ -1,4 +1,3 @@
--- `records::keep` meets its contract.
 use borrow.Author.Needs.{needs}
 use Rattle.records.proofs.tables.keep.Statement.{statement}
 use Rattle.records.proofs.tables.keep.Tie as tie

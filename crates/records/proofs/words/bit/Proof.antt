@@ -1,4 +1,3 @@
--- `records::words::bit` meets its contract.
 use Rattle.records.proofs.words.bit.Statement.{statement}
 use Rattle.records.proofs.words.bit.Tie as tie
 

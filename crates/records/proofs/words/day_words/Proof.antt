@@ -1,4 +1,3 @@
--- `records::words::day_words` meets its contract.
 use borrow.Author.Needs.{needs}
 use native.Mathlib.Omega.{arith}
 use Rattle.records.proofs.Laws.{word, kept}
@@ -19,5 +18,14 @@ day-words-spec =
     (λ c κs. search needs)  -- word-of-requires
     (λ c. search needs)  -- enum-told
     (λ c. let g = c .before .day .given in rw (g .1, word (c .before .before .before .before .args .d .year) (omega arith), word (g .0 .0) (omega arith), word (g .0 .1 .0) (omega arith)))  -- returns
-    (λ c. let g = c .before .before .day2 .given in rw (g .1, word (c .before .before .before .before .before .args .d .year) (omega arith), word (g .0 .0) (omega arith), word (g .0 .1 .0) (omega arith), kept (c .word-of .result) (c .word-of .ok), c .word-of .ensures))  -- returns-2
+    (λ c. let g = c .before .before .day2 .given in
+    rw (
+      g .1,
+      word (c .before .before .before .before .before .args .d .year) (omega arith),
+      word (g .0 .0) (omega arith),
+      word (g .0 .1 .0) (omega arith),
+      kept
+          (c .word-of .result) (c .word-of .ok),
+      c .word-of .ensures,
+    ))  -- returns-2
     (λ c. rw (c .enum-told .given .1, word (c .before .before .before .args .d .year) (omega arith))))  -- returns-3

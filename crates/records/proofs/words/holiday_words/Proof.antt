@@ -1,4 +1,3 @@
--- `records::words::holiday_words` meets its contract.
 use borrow.Author.Needs.{needs}
 use native.Mathlib.Omega.{arith}
 use Rattle.records.specs.Words.{wordsOf}

@@ -1,4 +1,3 @@
--- `records::words::repeat_word` meets its contract.
 use borrow.Author.Needs.{needs}
 use native.Mathlib.Omega.{arith}
 use Rattle.records.proofs.Laws.{word}

@@ -1,4 +1,3 @@
--- `records::words::span_words` meets its contract.
 use borrow.Author.Needs.{needs}
 use Rattle.records.specs.Words.{wordsOf}
 use Rattle.records.proofs.Laws.{kept}
@@ -23,4 +22,18 @@ span-words-spec =
     let a = c .before .before .before .before .before .before .time-words in
     let ga = c .before .struct-told .given in
     let gb = c .struct-told2 .given in
-    rw (kept (a .result .kind) (ga .0 .1), kept (a .result .minutes) (ga .1 .0 .1), kept (b .result .kind) (gb .0 .1), kept (b .result .minutes) (gb .1 .0 .1), kept (p .result) (p .ok), kept (o .result) (o .ok), kept (q .result) (q .ok), ← a .ensures, ← b .ensures, ← p .ensures, ← o .ensures, ← q .ensures)))  -- returns
+    rw (
+      kept (a .result .kind) (ga .0 .1),
+      kept (a .result .minutes) (ga .1 .0 .1),
+      kept (b .result .kind) (gb .0 .1),
+      kept (b .result .minutes) (gb .1 .0 .1),
+      kept
+          (p .result) (p .ok),
+      kept (o .result) (o .ok),
+      kept (q .result) (q .ok),
+      ← a .ensures,
+      ← b .ensures,
+      ← p .ensures,
+      ← o .ensures,
+      ← q .ensures,
+    )))  -- returns

@@ -1,4 +1,3 @@
--- `records::words::weekdays_words` meets its contract.
 use borrow.Author.Needs.{needs}
 use native.Mathlib.Omega.{arith}
 use Rattle.records.specs.Words.{wordsOf}
@@ -16,4 +15,13 @@ weekdays-words-spec =
     (λ c κs. search needs)  -- word-of-requires
     (λ c. search needs)  -- cast-t6
     (λ c. search needs)  -- cast-t7
-    (λ c. let r = c .before .before .before .before .before .before .args .r in let d = c .before .before .word-of in rw (word (r .first) (omega arith), word (r .last) (omega arith), kept (d .result) (d .ok), d .ensures, word (r .starts) (omega arith), word (r .ends) (omega arith))))  -- returns
+    (λ c. let r = c .before .before .before .before .before .before .args .r in let d = c .before .before .word-of in
+    rw (
+      word (r .first) (omega arith),
+      word (r .last) (omega arith),
+      kept (d .result) (d .ok),
+      d .ensures,
+      word (r .starts) (omega arith),
+      word (r .ends)
+          (omega arith),
+    )))  -- returns

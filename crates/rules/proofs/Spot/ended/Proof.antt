@@ -1,4 +1,3 @@
--- `rules::Spot::ended` meets its contract.
 use borrow.Author.Needs.{needs}
 use Rattle.rules.proofs.Laws.{open-end}
 use Rattle.rules.proofs.Spot.ended.Statement.{statement}

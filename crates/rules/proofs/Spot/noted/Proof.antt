@@ -1,4 +1,3 @@
--- `rules::Spot::noted` meets its contract.
 use borrow.Author.Needs.{needs}
 use mathlib.Core.Path.{ap}
 use Rattle.names.proofs.Facts.{said}

@@ -1,4 +1,4 @@
--- `rules::Spot::piece` meets its contract: one look at the place where the rule goes on tells the piece.
+-- One look at the place where the rule goes on tells the piece.
 use borrow.Author.Needs.{needs}
 use mathlib.Core.Bool.{true, false}
 use mathlib.Core.Path.{_≡_, ap, _∙_, subst}
@@ -31,7 +31,8 @@ abbrev may : (c : tie.After-look-at) → c .before .before .turn2 .given .0 .1 .
 may c e = let a = start c .args in let g = c .before .before .turn2 .given .0 in on c ∙ ap (λ m. turned (a .m) (now (a .s)) (a .self .stage) (a .self .at) (On (g .0) (g .1 .0) m)) e
 
 -- what stands there
-look : (c : tie.After-look-at) {r : Stands} → c .look-at .result ≡ r → let g = c .before .before .turn2 .given .0 in Standing (start c .args .m) (kindsOf (g .1 .0)) (now (start c .args .s)) (g .0 .at) r
+look : (c : tie.After-look-at) {r : Stands} → c .look-at .result ≡ r → let g = c .before .before .turn2 .given .0 in
+    Standing (start c .args .m) (kindsOf (g .1 .0)) (now (start c .args .s)) (g .0 .at) r
 look c e = let g = c .before .before .turn2 .given .0 in subst (Standing (start c .args .m) (kindsOf (g .1 .0)) (now (start c .args .s)) (g .0 .at)) e (c .look-at .ensures)
 
 pub piece-spec : {M : Type 1} → statement M

@@ -1,4 +1,3 @@
--- `rules::Spot::turn` meets its contract.
 use borrow.Author.Needs.{needs}
 use mathlib.Core.Path.{_∙_}
 use Rattle.items.specs.Sets.{bitOf, has, picked, kindsOf}

@@ -1,4 +1,3 @@
--- `rules::comments::comment` meets its contract.
 use borrow.Author.Needs.{needs}
 use mathlib.Core.Path.{ap}
 use denote.Ref.{now}
@@ -28,4 +27,5 @@ comment-spec =
     (λ c. let k = c .before .before .before in let e = k .before in
     rw (left (e .before .before) .is, e .letters .ensures, said (k .closed .ensures) (ap seenComment (c .before .enum-told2 .given .1)) .is) (c .ill-formed .ensures))  -- returns-2
     (λ c. let k = c .before in let e = k .before in let a = e .before .before .before .before .before .before .args in
-    rw (left (e .before .before) .is, e .letters .ensures, k .closed .ensures) (comment-stays (k .closed .result) (c .match2 .keys2) (now (a .s)) (e .letters .result .at) (illFormed (a .c .at)))))  -- returns-3
+    rw (left (e .before .before) .is, e .letters .ensures, k .closed .ensures) (comment-stays (k .closed .result) (c .match2 .keys2) (now (a .s))
+    (e .letters .result .at) (illFormed (a .c .at)))))  -- returns-3

@@ -1,4 +1,3 @@
--- `rules::comments::ill_formed` meets its contract.
 use borrow.Author.Needs.{needs}
 use Rattle.names.proofs.Facts.{went}
 use Rattle.rules.specs.Comments.{illFormed}

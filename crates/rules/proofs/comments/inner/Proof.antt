@@ -1,4 +1,3 @@
--- `rules::comments::inner` meets its contract.
 use Prim.Native.Nat.{_-_}
 use borrow.Author.Needs.{needs}
 use native.Mathlib.Omega.{arith}

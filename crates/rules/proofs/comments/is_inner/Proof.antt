@@ -1,4 +1,3 @@
--- `rules::comments::is_inner` meets its contract.
 use borrow.Author.Tests.{le-leb, lt-leb}
 use mathlib.Core.Bool.{not}
 use mathlib.Core.Path.{ap}

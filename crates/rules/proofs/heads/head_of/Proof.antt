@@ -1,4 +1,3 @@
--- `rules::heads::head_of` meets its contract.
 use borrow.Author.Needs.{needs}
 use Rattle.rules.proofs.heads.head_of.Statement.{statement}
 use Rattle.rules.proofs.heads.head_of.Tie as tie

@@ -1,4 +1,3 @@
--- `rules::heads::wins` meets its contract.
 use borrow.Author.Tests.{eq-eqb, ne-eqb}
 use Rattle.rules.specs.Rules.{wins}
 use Rattle.rules.proofs.heads.wins.Statement.{statement}

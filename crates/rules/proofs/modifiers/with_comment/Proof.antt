@@ -1,4 +1,3 @@
--- `rules::modifiers::with_comment` meets its contract.
 use borrow.Author.Needs.{needs}
 use mathlib.Core.Path.{ap}
 use Rattle.names.proofs.Facts.{said}
@@ -12,11 +11,11 @@ unfolding withComment
 with-comment-spec =
     tie.close
     (tie.spec
-    (λ c κs. search needs)  -- comment-apart-requires
-    (λ c. search needs)  -- enum-known-apart
+    (λ c κs. search needs)  -- comment-after-blank-requires
+    (λ c. search needs)  -- enum-known-read
     (λ c. search needs)  -- enum-told
     (λ c κs. search needs)  -- no-comment-requires
-    (λ c. search needs)  -- enum-known-apart-2
-    (λ c. rw (said (c .before .before .before .comment-apart .ensures) (ap seenComment (c .before .apart .given .1)) .is))  -- returns
-    (λ c. rw (said (c .before .before .before .comment-apart .ensures) (ap seenComment (c .before .enum-told .given .1)) .is, c .no-comment .ensures))  -- returns-2
-    (λ c. rw (said (c .before .before .before .comment-apart .ensures) (ap seenComment (c .before .apart2 .given .1)) .is)))  -- returns-3
+    (λ c. search needs)  -- enum-known-read-2
+    (λ c. rw (said (c .before .before .before .comment-after-blank .ensures) (ap seenComment (c .before .read .given .1)) .is))  -- returns
+    (λ c. rw (said (c .before .before .before .comment-after-blank .ensures) (ap seenComment (c .before .enum-told .given .1)) .is, c .no-comment .ensures))  -- returns-2
+    (λ c. rw (said (c .before .before .before .comment-after-blank .ensures) (ap seenComment (c .before .read2 .given .1)) .is)))  -- returns-3

@@ -1,4 +1,3 @@
--- `rules::openings::always` meets its contract.
 use borrow.Author.Needs.{needs}
 use Rattle.names.proofs.Facts.{Went, went}
 use Rattle.rules.proofs.Laws.{all-first, all-last}
@@ -25,7 +24,8 @@ always-spec =
     (λ c κs. search needs)  -- sign-requires-2
     (λ c. search needs)  -- enum-known-four
     (λ c. search needs)  -- enum-told-2
-    (λ c. let w = two (c .before .before .before .before) in rw (all-first, w .is, all-first, went (c .before .before .sign2 .ensures) (c .enum-told2 .given .1) .is, c .enum-told2 .given .1))  -- returns-2
+    (λ c. let w = two (c .before .before .before .before) in
+    rw (all-first, w .is, all-first, went (c .before .before .sign2 .ensures) (c .enum-told2 .given .1) .is, c .enum-told2 .given .1))  -- returns-2
     (λ c κs. search needs)  -- sign-requires-3
     (λ c. search needs)  -- enum-known-slash
     (λ c. search needs)  -- enum-told-3

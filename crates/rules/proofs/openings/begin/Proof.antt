@@ -1,4 +1,3 @@
--- `rules::openings::begin` meets its contract.
 use borrow.Author.Needs.{needs}
 use mathlib.Core.Path.{ap}
 use denote.Ref.{now}
@@ -42,6 +41,8 @@ begin-spec =
     (λ c κs. search needs)  -- plain-requires-4
     (λ c. search needs)  -- enum-known-wide-2
     (λ c. let w = wide (c .before .before .before .before .before) in rw (w .0 .is, w .1 .is, went (c .before .before .before .sign2 .ensures) (c .before .colon .given .1) .is))  -- returns-3
-    (λ c. let w = wide (c .before .before .before .before .before) in rw (w .0 .is, w .1 .is, went (c .before .before .before .sign2 .ensures) (c .before .enum-told4 .given .1) .is, c .plain3 .ensures))  -- returns-4
-    (λ c. let k = c .before .before .before in rw (not-always (k .before .before .before .before) .is, said (k .comment .ensures) (ap seenComment (c .before .enum-told5 .given .1)) .is, c .plain4 .ensures))  -- returns-5
+    (λ c. let w = wide (c .before .before .before .before .before) in
+    rw (w .0 .is, w .1 .is, went (c .before .before .before .sign2 .ensures) (c .before .enum-told4 .given .1) .is, c .plain3 .ensures))  -- returns-4
+    (λ c. let k = c .before .before .before in
+    rw (not-always (k .before .before .before .before) .is, said (k .comment .ensures) (ap seenComment (c .before .enum-told5 .given .1)) .is, c .plain4 .ensures))  -- returns-5
     (λ c. let k = c .before .before .before in rw (not-always (k .before .before .before .before) .is, said (k .comment .ensures) (ap seenComment (c .before .wide2 .given .1)) .is)))  -- returns-6

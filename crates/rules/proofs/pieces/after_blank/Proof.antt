@@ -1,4 +1,3 @@
--- `rules::pieces::after_blank` meets its contract.
 use borrow.Author.Needs.{needs}
 use Rattle.names.proofs.Facts.{went}
 use Rattle.rules.proofs.Turns.{blank-on, blank-off}

@@ -1,4 +1,3 @@
--- `rules::pieces::after_colon` meets its contract.
 use borrow.Author.Needs.{needs}
 use Rattle.names.proofs.Facts.{went}
 use Rattle.items.specs.Sets.{bitOf, has, picked, kindsOf}

@@ -1,4 +1,3 @@
--- `rules::pieces::after_item` meets its contract.
 use borrow.Author.Needs.{needs}
 use mathlib.Core.Path.{_∙_}
 use Rattle.names.proofs.Facts.{Went, went}
@@ -28,4 +27,5 @@ after-item-spec =
     (λ c m. let k = c .before .before in let n = k .before .before .before in
     wide-piece m _ _ _ (no-comma n .is) (went (k .before .before .colon-sign .ensures) (k .colon .given .1) .is) ∙ c .after-colon .ensures m _ _)  -- returns-2
     (λ c m. let f = c .before in let e = f .before in let n = e .before .before .before in
-    bare-piece m _ _ _ (no-comma n .is) (went (e .before .before .colon-sign .ensures) (e .enum-told2 .given .1) .is) ∙ rw (f .following .ensures) at (c .after-blank .ensures m (After (n .before .before .before .before .args .kind)))))  -- returns-3
+    bare-piece m _ _ _ (no-comma n .is) (went (e .before .before .colon-sign .ensures) (e .enum-told2 .given .1) .is)
+    ∙ rw (f .following .ensures) at (c .after-blank .ensures m (After (n .before .before .before .before .args .kind)))))  -- returns-3

@@ -1,4 +1,3 @@
--- `rules::pieces::colon_sign` meets its contract.
 use borrow.Author.Needs.{needs}
 use Rattle.rules.specs.Pieces.{colonSign}
 use Rattle.rules.proofs.pieces.colon_sign.Statement.{statement}

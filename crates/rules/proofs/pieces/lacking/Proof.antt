@@ -1,4 +1,3 @@
--- `rules::pieces::lacking` meets its contract.
 use borrow.Author.Needs.{needs}
 use Rattle.items.specs.Kinds.{Placed}
 use Rattle.items.proofs.Quotes.{lack-is}

@@ -1,4 +1,3 @@
--- `rules::pieces::nothing_read` meets its contract.
 use borrow.Author.Needs.{needs}
 use mathlib.Core.Path.{ap, _∙_}
 use Rattle.names.proofs.Facts.{said}

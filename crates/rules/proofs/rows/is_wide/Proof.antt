@@ -1,4 +1,3 @@
--- `rules::rows::is_wide` meets its contract.
 use borrow.Author.Needs.{needs}
 use Rattle.rules.proofs.Laws.{is-wide, is-narrow}
 use Rattle.rules.proofs.rows.is_wide.Statement.{statement}

@@ -1,4 +1,4 @@
--- `rules::rows::listed` meets its contract: the kinds of each number are computed.
+-- The kinds of each number are computed.
 use borrow.Author.Needs.{needs}
 use Rattle.items.specs.Sets.{bitOf, has, picked, kindsOf}
 use Rattle.rules.specs.Rows.{listed}

@@ -1,4 +1,3 @@
--- `rules::separators::next_rule` meets its contract.
 use borrow.Author.Needs.{needs}
 use borrow.Author.Tests.{eq-eqb, ne-eqb}
 use Rattle.names.specs.Read.{atEnd}

@@ -1,4 +1,3 @@
--- `sheet::editions::edition_of` meets its contract.
 use borrow.Author.Tests.{eq-eqb, ne-eqb}
 use Rattle.sheet.specs.Editions.{editionOf}
 use Rattle.sheet.proofs.editions.edition_of.Statement.{statement}

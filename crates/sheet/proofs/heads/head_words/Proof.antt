@@ -1,4 +1,3 @@
--- `sheet::heads::head_words` meets its contract.
 use borrow.Author.Needs.{needs}
 use native.Mathlib.Omega.{arith}
 use Rattle.records.proofs.Laws.{word}
@@ -18,4 +17,12 @@ head-words-spec =
     (λ c. search needs)  -- cast-t7
     (λ c. search needs)  -- cast-t8
     (λ c. let h = c .before .before .before .before .before .before .before .args .h in
-    rw (word (h .separator) (omega arith), word (h .state) (omega arith), word (h .comment .start) (omega arith), word (h .comment .length) (omega arith), word (h .items) (omega arith), word (h .place) (omega arith))))  -- returns
+    rw (
+      word (h .separator) (omega arith),
+      word (h .state) (omega arith),
+      word (h .comment .start) (omega arith),
+      word (h .comment .length) (omega arith),
+      word
+          (h .items) (omega arith),
+      word (h .place) (omega arith),
+    )))  -- returns

@@ -1,4 +1,3 @@
--- `sheet::heads::item_words` meets its contract.
 use borrow.Author.Needs.{needs}
 use native.Mathlib.Omega.{arith}
 use Rattle.records.proofs.Laws.{word}

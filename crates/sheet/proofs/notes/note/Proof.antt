@@ -1,4 +1,3 @@
--- `sheet::note` meets its contract.
 use Prim.Native.Nat.{_≤_}
 use borrow.Author.Needs.{needs}
 use native.Mathlib.Omega.{arith}
@@ -16,17 +15,20 @@ use Rattle.sheet.proofs.notes.note.Statement.{statement}
 use Rattle.sheet.proofs.notes.note.Tie as tie
 
 -- the note's numbers
-numbers : (c : tie.After-note-part) → let a = c .before .before .before .args in let r = c .note-part .result in (r .sheets, (r .from, r .to)) ≡ notePart (length (now (a .sheet))) (length (now (a .standing))) (a .start) (a .length)
+numbers : (c : tie.After-note-part) → let a = c .before .before .before .args in let r = c .note-part .result in
+    (r .sheets, (r .from, r .to)) ≡ notePart (length (now (a .sheet))) (length (now (a .standing))) (a .start) (a .length)
 numbers c = let z = c .before .before .before in let m = length (now (z .args .sheet)) in let n = length (now (z .args .standing)) in
     c .note-part .ensures
     ∙ ap (λ (x : ℤ). notePart m n x (toZ w32 (ofZ w32 (z .args .length)))) (toZ-ofZ (z .fits .start))
     ∙ ap (notePart m n (z .args .start)) (toZ-ofZ (z .fits .length))
 
 -- they stand in the sheet, or in the standing note
-stands : (c : tie.After-note-part) → c .note-part .result .sheets ≡ true → (c .note-part .result .from ≤ c .note-part .result .to) × (c .note-part .result .to ≤ length (now (c .before .before .before .args .sheet)))
+stands : (c : tie.After-note-part) → c .note-part .result .sheets ≡ true →
+    (c .note-part .result .from ≤ c .note-part .result .to) × (c .note-part .result .to ≤ length (now (c .before .before .before .args .sheet)))
 stands c t = let a = c .before .before .before .args in in-sheet (length (now (a .sheet))) (length (now (a .standing))) (a .start) (a .length) (numbers c) t
 
-waits : (c : tie.After-note-part) → c .note-part .result .sheets ≡ false → (c .note-part .result .from ≤ c .note-part .result .to) × (c .note-part .result .to ≤ length (now (c .before .before .before .args .standing)))
+waits : (c : tie.After-note-part) → c .note-part .result .sheets ≡ false →
+    (c .note-part .result .from ≤ c .note-part .result .to) × (c .note-part .result .to ≤ length (now (c .before .before .before .args .standing)))
 waits c t = let a = c .before .before .before .args in in-note (length (now (a .sheet))) (length (now (a .standing))) (a .start) (a .length) (numbers c) t
 
 pub note-spec : {M : Type 1} → statement M

@@ -1,4 +1,3 @@
--- `sheet::part_into` meets its contract.
 use Prim.Native.Nat.{_≤_}
 use borrow.Author.Needs.{needs}
 use native.Mathlib.Omega.{arith}
@@ -41,6 +40,9 @@ part-into-spec =
     (λ c. search needs)  -- same-length-2
     (λ c. let r = c .before .before .before .before in let e = r .before .before .before .before in let a = e .before .before .before .before .before .before .args in
     rw (c .with-next .ensures, e .part-end .ensures)
-    (part-text (a .m) (now (a .words), now (a .bytes)) (now (a .sheet)) (a .place) (a .size) (e .before .before .before .if1 .left) (here e) (rw (e .part-end .ensures) at (r .read-text .ensures))))  -- returns-2
+    (part-text (a .m) (now (a .words), now (a .bytes)) (now (a .sheet)) (a .place) (a .size) (e .before .before .before .if1 .left) (here e) (rw
+    (e .part-end .ensures) at (r .read-text .ensures))))  -- returns-2
     (λ c. let a = c .before .before .before .before .before .before .args in let u : Tables = (now (a .words), now (a .bytes)) in
-    ap (λ r. (r, u)) (c .part-refusal2 .ensures) ∙ part-nowhere (a .m) u (now (a .sheet)) (a .place) (a .size) (c .before .before .before .if1 .left) (sym (c .before .before .begins .ensures) ∙ c .before .if2 .left)))  -- returns-3
+    ap (λ r. (r, u)) (c .part-refusal2 .ensures)
+    ∙ part-nowhere (a .m) u (now (a .sheet)) (a .place) (a .size) (c .before .before .before .if1 .left) (sym (c .before .before .begins .ensures)
+    ∙ c .before .if2 .left)))  -- returns-3

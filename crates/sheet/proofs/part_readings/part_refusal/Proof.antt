@@ -1,4 +1,3 @@
--- `sheet::part_refusal` meets its contract.
 use borrow.Author.Needs.{needs}
 use mathlib.Core.Path.{ap, _∙_}
 use mathlib.Core.Bool.{true}

@@ -1,4 +1,3 @@
--- `sheet::read_part` meets its contract.
 use borrow.Author.Needs.{needs}
 use Rattle.sheet.proofs.part_readings.read_part.Statement.{statement}
 use Rattle.sheet.proofs.part_readings.read_part.Tie as tie

@@ -1,4 +1,3 @@
--- `sheet::read_part_bytes` meets its contract.
 use borrow.Author.Needs.{needs}
 use Rattle.sheet.proofs.part_readings.read_part_bytes.Statement.{statement}
 use Rattle.sheet.proofs.part_readings.read_part_bytes.Tie as tie

@@ -1,4 +1,3 @@
--- `sheet::flips` meets its contract.
 use borrow.Author.Tests.{eq-eqb, ne-eqb}
 use Rattle.sheet.proofs.parts.flips.Statement.{statement}
 use Rattle.sheet.proofs.parts.flips.Tie as tie

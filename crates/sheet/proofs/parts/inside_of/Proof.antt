@@ -1,4 +1,3 @@
--- `sheet::inside_of` meets its contract.
 use Prim.Native.Nat.{_-_, _≤_, _<_}
 use borrow.Author.Needs.{needs}
 use native.Mathlib.Omega.{arith}

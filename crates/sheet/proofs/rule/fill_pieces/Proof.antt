@@ -25,7 +25,8 @@ use Rattle.sheet.proofs.rule.fill_pieces.Statement.{statement}
 use Rattle.sheet.proofs.rule.fill_pieces.Tie as tie
 
 abbrev Inv-loop : tie.InvT-loop
-Inv-loop s m place separator words₀ bytes₀ slot wide n₀ spot₀ judged₀ words bytes n spot judged = Turn m place separator wide slot s (words₀, bytes₀) (spot₀ .stage) (spot₀ .at) (words, bytes) judged n (spot .stage) (spot .at)
+Inv-loop s m place separator words₀ bytes₀ slot wide n₀ spot₀ judged₀ words bytes n spot judged =
+    Turn m place separator wide slot s (words₀, bytes₀) (spot₀ .stage) (spot₀ .at) (words, bytes) judged n (spot .stage) (spot .at)
 
 abbrev μ-loop : tie.MeasureT-loop
 μ-loop s m place separator words₀ bytes₀ slot wide n₀ spot₀ judged₀ words bytes n spot judged = length s - spot .at
@@ -48,7 +49,8 @@ more-is c = piece-item _ _ _ _ (item c .is)
 -- the whole rule, from what is left at a turn
 whole : (c : tie.At-loop Inv-loop μ-loop) {r : Read Filled} → let a = c .before .before .before .before .before .args in
     left (a .m) (a .place) (a .separator) (a .start .comment) (a .slot) (c .loop .words, c .loop .bytes) (c .loop .judged) (c .loop .n) (c .loop .spot .stage) (now (a .s)) (c .loop .spot .at) ≡ r →
-    ruleInto (a .m) (now (a .words), now (a .bytes)) (a .slot) (a .separator) (now (a .s)) (a .place) ≡ follow (now (a .s)) (a .c .at) r (λ h. pure (headed (a .m) (a .place) (a .separator) (a .start .comment) (a .slot) h)) nothing
+    ruleInto (a .m) (now (a .words), now (a .bytes)) (a .slot) (a .separator) (now (a .s)) (a .place) ≡ follow (now (a .s)) (a .c .at) r (λ h. pure (headed (a .m)
+    (a .place) (a .separator) (a .start .comment) (a .slot) h)) nothing
 whole c e = turn-whole _ _ _ _ _ _ _ _ _ _ (c .loop .judged) (c .loop .n) (c .loop .spot .stage) (c .loop .spot .at) (c .before .before .before .before .before .pre .1 .1) refl refl (c .loop .inv) e
 
 -- the rule, where it ends
@@ -82,8 +84,15 @@ fill-pieces-spec =
     (λ c. search needs)  -- enum-known-piece-2
     (λ c κs. search needs)  -- head-of-requires
     (λ c κs. let h = c .before .before in let p = h .before .before in let l = p .before .before .before in let z = l .before .before .before .before .before in
-    let q = head-small (z .args .m) (z .args .place) (z .args .separator) (z .args .start .comment) (p .piece3 .given .0 .0) (now (z .args .s)) (l .loop .n) (l .loop .spot .at) _ (l .loop .spot .stage) (opening-small (now (z .args .s)) (z .args .place) (z .pre .1 .1)) (end p .is) in
-    rw (h .head-of .ensures) (omega (arith, q .0, z .pre .0), omega (arith, q .1, z .pre .0), omega (arith, l .loop .inv .few, z .pre .0), omega (arith, head-placed _ _ _ _ _ _ (ended l (end p .is)), z .pre .0)))  -- head-words-requires
+    let q = head-small (z .args .m) (z .args .place) (z .args .separator) (z .args .start .comment) (p .piece3 .given .0 .0) (now (z .args .s)) (l .loop .n)
+    (l .loop .spot .at) _ (l .loop .spot .stage) (opening-small (now (z .args .s)) (z .args .place) (z .pre .1 .1)) (end p .is) in
+    rw (h .head-of .ensures) (
+      omega (arith, q .0, z .pre .0),
+      omega (arith, q .1, z .pre .0),
+      omega (arith, l .loop .inv .few, z .pre .0),
+      omega
+          (arith, head-placed _ _ _ _ _ _ (ended l (end p .is)), z .pre .0),
+    ))  -- head-words-requires
     (λ c κs. search needs)  -- keep-requires-2
     (λ c. let w = c .before .before in w .words2 .given ∙ w .before .before .before .before .before .before .before .before .before .before .loop .inv .words)  -- same-length
     (λ c. let w = c .before in w .bytes2 .given ∙ w .before .before .before .before .before .before .before .before .before .before .before .loop .inv .bytes)  -- same-length-2
@@ -92,4 +101,5 @@ fill-pieces-spec =
     (λ c. search needs)  -- enum-known-piece-3
     (λ c. c .before .before .before .before .loop .inv .words)  -- same-length-3
     (λ c. c .before .before .before .before .loop .inv .bytes)  -- same-length-4
-    (λ c. let l = c .before .before .before .before in whole l (left-refused _ _ _ _ _ _ _ (l .loop .judged) (l .loop .n) (l .loop .spot .stage) (l .loop .spot .at) (refusal (c .before) .is))))  -- returns-2
+    (λ c. let l = c .before .before .before .before in
+    whole l (left-refused _ _ _ _ _ _ _ (l .loop .judged) (l .loop .n) (l .loop .spot .stage) (l .loop .spot .at) (refusal (c .before) .is))))  -- returns-2

@@ -1,4 +1,4 @@
--- `sheet::put_records` meets its contract: record by record.
+-- Record by record.
 use borrow.Author.Needs.{needs}
 use Prim.Native.Nat.{_*_, _-_, _≤_}
 use native.Mathlib.Omega.{arith}
@@ -11,7 +11,8 @@ use Rattle.sheet.proofs.sheets.put_records.Tie as tie
 
 abbrev Inv-loop : tie.InvT-loop
 Inv-loop from n words₀ bytes₀ slot₀ words bytes slot =
-    (slot ≤ n) × (length words ≡ length words₀) × (length bytes ≡ length bytes₀) × (allKept (words₀, bytes₀) 0 (recordsIn n from) ≡ allKept (words, bytes) slot (recordsIn (n - slot) (drop (slot * 16) from)))
+    (slot ≤ n) × (length words ≡ length words₀) × (length bytes ≡ length bytes₀) × (allKept (words₀, bytes₀) 0 (recordsIn n from) ≡ allKept (words, bytes) slot
+    (recordsIn (n - slot) (drop (slot * 16) from)))
 
 abbrev μ-loop : tie.MeasureT-loop
 μ-loop from n words₀ bytes₀ slot₀ words bytes slot = n - slot

@@ -1,4 +1,3 @@
--- `sheet::read_sheet` meets its contract.
 use borrow.Author.Needs.{needs}
 use Rattle.sheet.proofs.sheets.read_sheet.Statement.{statement}
 use Rattle.sheet.proofs.sheets.read_sheet.Tie as tie

@@ -1,4 +1,3 @@
--- `sheet::read_sheet_bytes` meets its contract.
 use borrow.Author.Needs.{needs}
 use Rattle.sheet.proofs.sheets.read_sheet_bytes.Statement.{statement}
 use Rattle.sheet.proofs.sheets.read_sheet_bytes.Tie as tie

@@ -1,4 +1,4 @@
--- `sheet::read_text` meets its contract: what was kept and put into the tables, or read again, is what they are to have.
+-- What was kept and put into the tables, or read again, is what they are to have.
 use borrow.Author.Needs.{needs}
 use native.Mathlib.Omega.{arith}
 use mathlib.Core.List.{[]}
@@ -23,12 +23,16 @@ abbrev own : tie.After-fill-rules → Tables
 own c = (c .fill-rules .last .1 .1 .1 .0, c .fill-rules .last .1 .1 .1 .1 .0)
 
 -- so many records were counted, and kept
-many : (c : tie.After-counted) → let f = c .before .before .before .before in let a = f .before .before .before .before .before .args in Kept (a .m) empty (own f) (now (a .s)) (a .p) (c .counted .given .0 .0)
+many : (c : tie.After-counted) → let f = c .before .before .before .before in let a = f .before .before .before .before .before .args in
+    Kept (a .m) empty (own f) (now (a .s)) (a .p) (c .counted .given .0 .0)
 many c = let f = c .before .before .before .before in kept-is _ _ _ empty (own f) (f .fill-rules .ensures ∙ ap (λ (r : Counted). seenRulesInto r (own f)) (c .counted .given .1))
 
 -- either way the tables have them
-filled : (c : tie.Joined2) → let k = c .before .before .before in let a = k .before .before .before .before .before .before .before .before .before .args in (c .if2 .words, c .if2 .bytes) ≡ allKept (now (a .words), now (a .bytes)) 0 (records (many k .list))
-filled c = let k = c .before .before .before in let f = k .before .before .before .before in let a = f .before .before .before .before .before .args in let u : Tables = (now (a .words), now (a .bytes)) in
+filled : (c : tie.Joined2) → let k = c .before .before .before in let a = k .before .before .before .before .before .before .before .before .before .args in
+    (c .if2 .words, c .if2 .bytes) ≡ allKept (now (a .words), now (a .bytes)) 0 (records (many k .list))
+filled c =
+    let k = c .before .before .before in let f = k .before .before .before .before in let a = f .before .before .before .before .before .args in
+    let u : Tables = (now (a .words), now (a .bytes)) in
     ⊎-elim
     (λ t. rw (t .7, t .8) (again (a .m) (now (a .s)) (a .p) empty (own f) u (many k) (t .3 .result) (t .3 .ensures)))
     (λ t. rw (t .8, t .9) (t .4 .ensures ∙ ap (allKept u 0) (taken (a .m) (now (a .s)) (a .p) empty (own f) u (many k) (omega (arith, t .0 .left)))))
@@ -43,7 +47,8 @@ read-text-spec =
     (λ c κs. search needs)  -- fill-rules-requires
     (λ c. search needs)  -- enum-known-counted
     (λ c κs. search needs)  -- refusal-requires
-    (λ c. let k = c .before .before .before in let f = k .before .before .before .before in let a = f .before .before .before .before .before .args in let u : Tables = (now (a .words), now (a .bytes)) in
+    (λ c. let k = c .before .before .before in let f = k .before .before .before .before in let a = f .before .before .before .before .before .args in
+    let u : Tables = (now (a .words), now (a .bytes)) in
     ap (λ r. (r, u)) (c .refusal .ensures) ∙ text-full (a .m) (now (a .s)) (a .p) empty (own f) u (many k) (a .size) (c .before .if1 .taken))  -- returns
     (λ c κs. search needs)  -- fill-rules-requires-2
     (λ c. search needs)  -- slice-aggregate-put-records
@@ -53,7 +58,9 @@ read-text-spec =
     (λ c κs. search needs)  -- refusal-requires-2
     (λ c. ⊎-elim (λ t. ap length (t .7) ∙ t .4 .given) (λ t. ap length (t .8) ∙ t .5 .given) (c .before .if2 .came))  -- same-length
     (λ c. ⊎-elim (λ t. ap length (t .8) ∙ t .5 .given) (λ t. ap length (t .9) ∙ t .6 .given) (c .before .if2 .came))  -- same-length-2
-    (λ c. let i = c .before .before in let k = i .before .before in let f = k .before .before .before .before in let a = f .before .before .before .before .before .args in let u : Tables = (now (a .words), now (a .bytes)) in
+    (λ c. let i = c .before .before in let k = i .before .before in let f = k .before .before .before .before in
+    let a = f .before .before .before .before .before .args in let u : Tables = (now (a .words), now (a .bytes)) in
     rw (c .warnings-of .ensures, filled (c .before)) (text-accepted (a .m) (now (a .s)) (a .p) empty (own f) u (many k) (a .size) (i .if1 .left)))  -- returns-2
     (λ c. let k = c .before .before in let f = k .before .before .before .before in let a = f .before .before .before .before .before .args in let u : Tables = (now (a .words), now (a .bytes)) in
-    ap (λ r. (r, u)) (c .refusal2 .ensures) ∙ text-refused (a .m) (now (a .s)) (a .p) empty u (a .size) (f .fill-rules .ensures ∙ ap (λ (r : Counted). seenRulesInto r (own f)) (k .counted2 .given .1))))  -- returns-3
+    ap (λ r. (r, u)) (c .refusal2 .ensures) ∙ text-refused (a .m) (now (a .s)) (a .p) empty u (a .size) (f .fill-rules .ensures
+    ∙ ap (λ (r : Counted). seenRulesInto r (own f)) (k .counted2 .given .1))))  -- returns-3

@@ -1,4 +1,4 @@
--- `sheet::record_at` meets its contract: word by word.
+-- Word by word.
 use borrow.Author.Needs.{needs, sfits-of}
 use Prim.Native.Nat.{_*_, _-_, _≤_}
 use native.Mathlib.Omega.{arith}
@@ -34,6 +34,10 @@ record-at-spec =
     (λ c. search needs)  -- array-set-from-w
     (λ c. search needs)  -- add-i
     (λ c. search needs)  -- loop-less
-    (λ c. let l = c .before .before in let z = l .before in
-    (search needs, simp length-set (search needs), taken-more (pos 0) _ _ (l .loop .i) (search needs) (simp length-drop (omega arith)) (toZ-ofZ {w = w32} (sfits-of (c .w .given)) ∙ sym (getD-drop (z .args .slot * 16) (now (z .args .table)) (l .loop .i) (pos 0))) (l .loop .inv .2)))  -- loop-again
+    (λ c. let l = c .before .before in let z = l .before in (
+      search needs,
+      simp length-set (search needs),
+      taken-more (pos 0) _ _ (l .loop .i) (search needs) (simp length-drop (omega arith)) (toZ-ofZ {w = w32} (sfits-of
+          (c .w .given)) ∙ sym (getD-drop (z .args .slot * 16) (now (z .args .table)) (l .loop .i) (pos 0))) (l .loop .inv .2),
+    ))  -- loop-again
     (λ c. let l = c .before in let e : l .loop .i ≡ 16 = omega arith in sym (take-all 16 (l .loop .w) (omega arith)) ∙ (rw e at (l .loop .inv .2))))  -- returns

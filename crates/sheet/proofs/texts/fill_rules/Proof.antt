@@ -36,7 +36,8 @@ after c = let f = c .before .before .before .before in (f .fill-rule .last .1 .1
 -- what a turn reads, as the code reads it
 abbrev Reads : tie.After-parted Inv-loop μ-loop → Parted → Type 0
 Reads c x = let l = loop c in let s = now (l .before .before .before .args .s) in
-    map (both (kept (l .before .before .before .args .m) (tables c) (l .loop .slot))) (moreRules (l .before .before .before .args .m) (Another (l .loop .separator))) s (l .loop .at) ≡ follow s (l .loop .at) (seenParted x) (λ y. pure (both (λ n. (n, after c)) y)) nothing
+    map (both (kept (l .before .before .before .args .m) (tables c) (l .loop .slot))) (moreRules (l .before .before .before .args .m) (Another (l .loop .separator))) s
+    (l .loop .at) ≡ follow s (l .loop .at) (seenParted x) (λ y. pure (both (λ n. (n, after c)) y)) nothing
 
 reads : (c : tie.After-parted Inv-loop μ-loop) {x : Parted} → c .parted .result ≡ x → Reads c x
 reads c e = let f = c .before .before .before .before in
@@ -44,7 +45,10 @@ reads c e = let f = c .before .before .before .before in
 
 -- a rule, and what follows it
 abbrev Turn : tie.After-r Inv-loop μ-loop → Next → Type 0
-Turn c n = let p = c .before .before in let l = loop p in let g = c .r .given .0 in Turned (l .before .before .before .args .m) (tables p) (after p) (l .loop .slot) (l .loop .separator) (now (l .before .before .before .args .s)) (l .loop .at) (g .0) (g .1 .0) n (g .1 .1 .1 .0 .at)
+Turn c n =
+    let p = c .before .before in let l = loop p in let g = c .r .given .0 in
+    Turned (l .before .before .before .args .m) (tables p) (after p) (l .loop .slot) (l .loop .separator) (now (l .before .before .before .args .s)) (l .loop .at) (g .0)
+    (g .1 .0) n (g .1 .1 .1 .0 .at)
 
 turn : (c : tie.After-r Inv-loop μ-loop) {n : Next} → c .r .given .0 .1 .1 .0 ≡ n → Turn c n
 turn c e = subst (Turn c) e (turned _ _ _ _ _ _ _ (reads (c .before .before) (c .r .given .1)))
@@ -63,7 +67,7 @@ fill-rules-spec =
     (λ c. let r = c .before in omega (arith, turn r refl .later, turn r refl .stays, loop (r .before .before) .before .before .before .pre))  -- add-slot
     (λ c. let r = c .before in let l = loop (r .before .before) in omega (arith, turn r refl .later, turn r refl .stays, l .loop .inv .low, l .before .before .before .pre))  -- add-slot-2
     (λ c κs. search needs)  -- first-of-requires
-    (λ c. search needs)  -- enum-known-behind
+    (λ c. search needs)  -- enum-known-after
     (λ c. search needs)  -- enum-told
     (λ c κs. search needs)  -- counted-requires
     (λ c. let p = c .before .before .before .before .before .before .before in p .before .before .before .words .given ∙ loop p .loop .inv .words)  -- same-length
@@ -71,10 +75,11 @@ fill-rules-spec =
     (λ c. let e = c .before in let o = e .before .before in let r = o .before .before in let p = r .before .before in let l = loop p in
     filling-end _ _ _ _ (tables p) (after p) (l .loop .slot) (l .loop .at) (l .loop .separator) (l .loop .broken) (l .loop .inv) (turn r (e .enum-told .given .1))
     ∙ rw (← o .first-of .ensures) (c .counted .ensures _ _))  -- returns
-    (λ c. let b = c .before in let r = b .before .before .before .before in let t = turn r (b .behind .given .1) in omega (arith, t .later, t .stays))  -- loop-less
+    (λ c. let b = c .before in let r = b .before .before .before .before in let t = turn r (b .after .given .1) in omega (arith, t .later, t .stays))  -- loop-less
     (λ c. let b = c .before in let o = b .before .before in let r = o .before .before in let p = r .before .before in let l = loop p in
     rw (o .first-of .ensures)
-    (filling-more _ _ _ _ (tables p) (after p) (l .loop .slot) (l .loop .at) (l .loop .separator) (l .loop .broken) (l .loop .inv) (l .before .before .before .pre) (p .before .before .before .words .given) (p .before .before .bytes .given) (turn r (b .behind .given .1))))  -- loop-again
+    (filling-more _ _ _ _ (tables p) (after p) (l .loop .slot) (l .loop .at) (l .loop .separator) (l .loop .broken) (l .loop .inv) (l .before .before .before .pre)
+    (p .before .before .before .words .given) (p .before .before .bytes .given) (turn r (b .after .given .1))))  -- loop-again
     (λ c. search needs)  -- enum-known-r-2
     (λ c. let p = c .before .before .before in p .before .before .before .words .given ∙ loop p .loop .inv .words)  -- same-length-3
     (λ c. let p = c .before .before .before in p .before .before .bytes .given ∙ loop p .loop .inv .bytes)  -- same-length-4

@@ -1,4 +1,3 @@
--- `sheet::parted` meets its contract.
 use borrow.Author.Needs.{needs}
 use mathlib.Core.Path.{ap, _∙_}
 use Rattle.items.proofs.Quotes.{lack-is}

@@ -1,4 +1,3 @@
--- `sheet::is_letter` meets its contract.
 use borrow.Author.Needs.{needs}
 use mathlib.Core.Path.{sym, _∙_}
 use Rattle.sheet.specs.Warnings.{isLetter}

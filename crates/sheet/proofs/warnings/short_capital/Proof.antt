@@ -1,4 +1,3 @@
--- `sheet::short_capital` meets its contract.
 use Prim.Native.Nat.{ℕ, _+_}
 use borrow.Author.Needs.{needs}
 use native.Mathlib.Nat.{add-zero}
@@ -34,8 +33,24 @@ short-capital-spec =
     (λ c κs. search needs)  -- byte-requires-3
     (λ c κs. search needs)  -- is-letter-requires
     (λ c. let t = c .before .before in let u = t .before .before .before in let a = u .before .before .before .before .args in
-    rw (three (now (a .s)) (a .at), ← u .before .before .byte .ensures, sym (u .before .within .ensures) ∙ u .if1 .taken, ← t .before .before .byte2 .ensures, sym (t .before .within2 .ensures) ∙ t .if2 .taken, ← c .before .byte3 .ensures, c .is-letter .ensures))  -- returns
+    rw (
+      three (now (a .s)) (a .at),
+      ← u .before .before .byte .ensures,
+      sym (u .before .within .ensures)
+          ∙ u .if1 .taken,
+      ← t .before .before .byte2 .ensures,
+      sym (t .before .within2 .ensures) ∙ t .if2 .taken,
+      ← c .before .byte3 .ensures,
+      c .is-letter .ensures,
+    ))  -- returns
     (λ c. let u = c .before .before .before in let a = u .before .before .before .before .args in
-    rw (three (now (a .s)) (a .at), ← u .before .before .byte .ensures, sym (u .before .within .ensures) ∙ u .if1 .taken, ← c .before .before .byte2 .ensures, sym (c .before .within2 .ensures) ∙ c .if2 .left))  -- returns-2
+    rw (
+      three (now (a .s)) (a .at),
+      ← u .before .before .byte .ensures,
+      sym (u .before .within .ensures)
+          ∙ u .if1 .taken,
+      ← c .before .before .byte2 .ensures,
+      sym (c .before .within2 .ensures) ∙ c .if2 .left,
+    ))  -- returns-2
     (λ c. let a = c .before .before .before .before .args in
     rw (three (now (a .s)) (a .at), ← c .before .before .byte .ensures, sym (c .before .within .ensures) ∙ c .if1 .left)))  -- returns-3

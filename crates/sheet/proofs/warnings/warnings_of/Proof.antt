@@ -1,4 +1,3 @@
--- `sheet::warnings_of` meets its contract.
 use Prim.Native.Nat.{_+_, _-_, _≤_}
 use borrow.Author.Needs.{needs}
 use native.Mathlib.Omega.{arith}
@@ -24,7 +23,8 @@ abbrev μ-loop : tie.MeasureT-loop
 μ-loop s p n₀ i₀ n i = length s - i
 
 -- one more is counted where a warning stands
-counted : (c : tie.Joined5 Inv-loop μ-loop) → c .if5 .n ≡ c .before .before .before .before .before .before .before .before .before .before .before .loop .n + (if c .before .calls .result then 1 else 0)
+counted : (c : tie.Joined5 Inv-loop μ-loop) →
+    c .if5 .n ≡ c .before .before .before .before .before .before .before .before .before .before .before .loop .n + (if c .before .calls .result then 1 else 0)
 counted c = ⊎-elim (λ t. rw (t .0 .taken) (t .1)) (λ t. rw (t .0 .left) (omega (arith, t .1))) (c .if5 .came)
 
 pub warnings-of-spec : {M : Type 1} → statement M
@@ -33,7 +33,8 @@ warnings-of-spec =
     (tie.spec
     Inv-loop
     μ-loop
-    (λ c. let e : warningsIn false false (drop (c .before .args .p) (now (c .before .args .s))) ≡ 0 + warningsIn false false (drop (c .before .args .p) (now (c .before .args .s))) = omega arith in (search needs, e))  -- loop-holds
+    (λ c. let e : warningsIn false false (drop (c .before .args .p) (now (c .before .args .s))) ≡ 0 + warningsIn false false (drop (c .before .args .p) (now
+    (c .before .args .s))) = omega arith in (search needs, e))  -- loop-holds
     (λ c κs. search needs)  -- after-signs-requires
     (λ c. let a = c .before in let l = a .before in
     omega (arith, l .loop .inv .1, a .after-signs .ensures .1, warnings-none false false (now (l .before .before .args .s)) (a .after-signs .result) (c .if1 .taken)))  -- returns
@@ -62,10 +63,19 @@ warnings-of-spec =
     (λ c κs. search needs)  -- after-letters-requires
     (λ c. let k = c .before .before .before in let a = k .before .before .before .before .before .before .before .before in let s = now (a .before .before .before .args .s) in
     omega (arith, a .after-signs .ensures .0, small-later s (a .after-signs .result + 1) (k .skip .result .at) (k .skip .ensures), c .after-letters .ensures .0))  -- loop-less-3
-    (λ c. let k = c .before .before .before in let e = k .before .before .before .before .before .before .before in let a = e .before in let l = a .before in let s = now (l .before .before .args .s) in let i = a .after-signs .result in
+    (λ c. let k = c .before .before .before in let e = k .before .before .before .before .before .before .before in let a = e .before in let l = a .before in
+    let s = now (l .before .before .args .s) in let i = a .after-signs .result in
     let word = warnings-word s i (e .if1 .left) (sym (k .before .before .is-letter .ensures) ∙ k .before .if4 .taken) (c .before .before .calls .ensures) in
     let small = small-passed s (i + 1) (k .skip .result .at) (k .skip .ensures) in (
-      omega (arith, counted (c .before), at-most (c .before .before .calls .result), a .after-signs .ensures .0, small-later s (i + 1) (k .skip .result .at) (k .skip .ensures), c .after-letters .ensures .0),
+      omega (
+        arith,
+        counted (c .before),
+        at-most (c .before .before .calls .result),
+        a .after-signs .ensures .0,
+        small-later s (i + 1) (k .skip .result .at)
+            (k .skip .ensures),
+        c .after-letters .ensures .0,
+      ),
       omega (arith, counted (c .before), l .loop .inv .1, a .after-signs .ensures .1, word, small, c .after-letters .ensures .1),
     ))  -- loop-again-3
     (λ c. search needs)  -- add-i-2

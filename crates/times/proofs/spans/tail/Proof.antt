@@ -1,4 +1,3 @@
--- `times::spans::tail` meets its contract.
 use borrow.Author.Needs.{needs}
 use mathlib.Core.Path.{ap}
 use Rattle.names.proofs.Facts.{Went, went, said}
@@ -32,5 +31,7 @@ tail-spec =
     (λ c κs. search needs)  -- repeated-requires
     (λ c. search needs)  -- enum-known-again
     (λ c. search needs)  -- enum-told-3
-    (λ c. let w = slash (c .before .before .before .before .before) in let v = said (c .before .before .before .repeated .ensures) (ap seenTail (c .before .again .given .1)) in rw (w .0 .is, w .1 .is, v .is))  -- returns-3
-    (λ c. let w = slash (c .before .before .before .before) in let v = said (c .before .before .repeated .ensures) (ap seenTail (c .enum-told3 .given .1)) in rw (w .0 .is, w .1 .is, v .is)))  -- returns-4
+    (λ c. let w = slash (c .before .before .before .before .before) in
+    let v = said (c .before .before .before .repeated .ensures) (ap seenTail (c .before .again .given .1)) in rw (w .0 .is, w .1 .is, v .is))  -- returns-3
+    (λ c. let w = slash (c .before .before .before .before) in let v = said (c .before .before .repeated .ensures) (ap seenTail (c .enum-told3 .given .1)) in
+    rw (w .0 .is, w .1 .is, v .is)))  -- returns-4

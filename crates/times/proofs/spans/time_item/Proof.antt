@@ -1,18 +1,17 @@
--- `times::time_item` meets its contract.
 use borrow.Author.Needs.{needs}
 use mathlib.Core.List.{List}
 use mathlib.Core.Path.{_≡_, ap, _∙_}
 use Prim.Native.Nat.{ℕ}
 use denote.Ref.{now}
 use Rattle.names.specs.Read.{Read, got, none}
-use Rattle.times.specs.Spans.{spanBehind, spanShape, timeItem}
+use Rattle.times.specs.Spans.{spanAfter, spanShape, timeItem}
 use Rattle.times.specs.Seen.{seenClock, seenTime}
 use Rattle.times.specs.declared.Clock.{Clock}
 use Rattle.times.specs.declared.RawTime.{RawTime}
 use Rattle.times.specs.declared.RawTime.the-variants.{Fixed}
 use Rattle.times.specs.Times.{clock, eventTime, rawTime}
 use Rattle.times.specs.Meanings.{spanMeaning}
-use Rattle.records.proofs.Anywhere.{item-behind}
+use Rattle.records.proofs.Anywhere.{item-after}
 use Rattle.times.proofs.spans.time_item.Statement.{statement}
 use Rattle.times.proofs.spans.time_item.Tie as tie
 
@@ -32,17 +31,17 @@ time-item-spec =
     (tie.spec
     (λ c κs. search needs)  -- clock-requires
     (λ c. search needs)  -- enum-known-fixed
-    (λ c κs. search needs)  -- span-item-behind-requires
+    (λ c κs. search needs)  -- span-item-after-requires
     (λ c. let k = c .before .before .before .before in let a = k .before .before .args in
     let fixed = with-clock (now (a .s)) (a .c .at) (k .clock .ensures ∙ ap seenClock (c .before .before .fixed .given .1)) in
-    item-behind rawTime spanBehind (spanMeaning _) fixed ∙ c .span-item-behind .ensures)  -- returns
+    item-after rawTime spanAfter (spanMeaning _) fixed ∙ c .span-item-after .ensures)  -- returns
     (λ c. search needs)  -- enum-told
     (λ c κs. search needs)  -- event-time-requires
     (λ c. search needs)  -- enum-known-first
     (λ c. search needs)  -- enum-told-2
     (λ c. let e = c .before .before in let k = e .before .before .before in let a = k .before .before .args in
     rw (without-clock (now (a .s)) (a .c .at) (k .clock .ensures ∙ ap seenClock (e .before .enum-told .given .1)) (e .event-time .ensures ∙ ap seenTime (c .enum-told2 .given .1))))  -- returns-2
-    (λ c κs. search needs)  -- span-item-behind-requires-2
+    (λ c κs. search needs)  -- span-item-after-requires-2
     (λ c. let e = c .before .before .before .before in let k = e .before .before .before in let a = k .before .before .args in
     let first = without-clock (now (a .s)) (a .c .at) (k .clock .ensures ∙ ap seenClock (e .before .enum-told .given .1)) (e .event-time .ensures ∙ ap seenTime (c .before .before .first .given .1)) in
-    item-behind rawTime spanBehind (spanMeaning _) first ∙ c .span-item-behind2 .ensures))  -- returns-3
+    item-after rawTime spanAfter (spanMeaning _) first ∙ c .span-item-after2 .ensures))  -- returns-3

@@ -1,4 +1,3 @@
--- `times::spans::until_item` meets its contract.
 use borrow.Author.Needs.{needs}
 use mathlib.Core.List.{[]}
 use mathlib.Core.Path.{ap}
@@ -33,5 +32,6 @@ until-item-spec =
     (λ c κs. search needs)  -- tail-requires
     (λ c κs. search needs)  -- until-meaning-requires
     (λ c κs. search needs)  -- judged-requires
-    (λ c. λ m. let t = c .before .before .before in let k = end (t .before .before) in let u = c .before .until-meaning in let a = c .before .before .before .before .before .before .before .before .before .before .before .before .before .args in
+    (λ c. λ m. let t = c .before .before .before in let k = end (t .before .before) in let u = c .before .until-meaning in
+    let a = c .before .before .before .before .before .before .before .before .before .before .before .before .before .args in
     rw (k .0 .is, k .1 .is, t .tail .ensures, ← u .ensures m, judged-in (a .p) (u .result) (now (a .s)) [] (t .tail .result .next .at)) (c .judged .ensures)))  -- returns-3

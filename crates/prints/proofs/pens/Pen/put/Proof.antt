@@ -1,4 +1,3 @@
--- `prints::Pen::put` meets its contract.
 use borrow.Author.Needs.{needs}
 use mathlib.Core.Logic.{⊎-elim}
 use mathlib.Core.Path.{_≡_, sym, ap, _∙_}

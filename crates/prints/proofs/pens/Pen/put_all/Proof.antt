@@ -1,4 +1,4 @@
--- `prints::Pen::put_all` meets its contract: what is left of the text, written after what was, makes the whole.
+-- What is left of the text, written after what was, makes the whole.
 use borrow.Author.Needs.{needs}
 use Prim.Native.Nat.{_+_, _-_, _≤_}
 use mathlib.Core.List.{_∷_, []}
@@ -30,7 +30,13 @@ put-all-spec =
     (λ c. search needs)  -- add-i
     (λ c. search needs)  -- loop-less
     (λ c. let l = c .before .before .before .before .before .before in
-    let text = now (l .before .before .before .args .text) in
-    (search needs, less-left (getD text (l .loop .i) 0 ∷ []) (drop (l .loop .i + 1) text) (search needs) (l .loop .inv .1) (rw (add-one, drop-cons text (l .loop .i) 0 (c .before .before .before .before .before .loop-test .taken))) (c .before .before .put .ensures)))  -- loop-again
+    let text = now (l .before .before .before .args .text) in (
+      search needs,
+      less-left (getD text (l .loop .i) 0 ∷ []) (drop (l .loop .i + 1) text) (search needs) (l .loop .inv .1) (rw (
+        add-one,
+        drop-cons text (l .loop .i) 0
+            (c .before .before .before .before .before .loop-test .taken),
+      )) (c .before .before .put .ensures),
+    ))  -- loop-again
     (λ c. search needs)  -- same-length
     (λ c. none-left (rw (drop-of-length-le (now (c .before .before .before .before .args .text)) (c .loop-test .left)) at (c .before .loop .inv .1))))  -- returns

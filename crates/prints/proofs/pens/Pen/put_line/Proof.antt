@@ -1,4 +1,4 @@
--- `prints::Pen::put_line` meets its contract: what is left of the line, written after what was, makes the whole.
+-- What is left of the line, written after what was, makes the whole.
 use borrow.Author.Needs.{needs, sfits-of}
 use Prim.Native.Nat.{_+_, _*_, _-_, _≤_}
 use mathlib.Core.List.{_∷_, []}

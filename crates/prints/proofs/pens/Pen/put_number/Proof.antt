@@ -1,4 +1,3 @@
--- `prints::Pen::put_number` meets its contract.
 use borrow.Author.Needs.{needs}
 use mathlib.Core.Path.{ap, _∙_}
 use native.Mathlib.Omega.{arith}

@@ -1,4 +1,3 @@
--- `prints::Pen::put_word` meets its contract.
 use borrow.Author.Needs.{needs}
 use Prim.Native.Char.{code}
 use mathlib.Core.List.{_∷_, []}

@@ -1,0 +1,15 @@
+-- The first number that it is.
+use borrow.Author.Tests.{eq-eqb, ne-eqb}
+use Rattle.times.specs.Meanings.{eventOf}
+use Rattle.times.proofs.meanings.event_of.Statement.{statement}
+use Rattle.times.proofs.meanings.event_of.Tie as tie
+
+pub event-of-spec : {M : Type 1} → statement M
+unfolding eventOf
+event-of-spec =
+    tie.close
+    (tie.spec
+    (λ c. rw (eq-eqb _ 1 (c .if1 .taken)))  -- returns
+    (λ c. rw (ne-eqb _ 1 (c .before .if1 .left), eq-eqb _ 2 (c .if2 .taken)))  -- returns-2
+    (λ c. rw (ne-eqb _ 1 (c .before .before .if1 .left), ne-eqb _ 2 (c .before .if2 .left), eq-eqb _ 3 (c .if3 .taken)))  -- returns-3
+    (λ c. rw (ne-eqb _ 1 (c .before .before .if1 .left), ne-eqb _ 2 (c .before .if2 .left), ne-eqb _ 3 (c .if3 .left))))  -- returns-4

@@ -1,0 +1,14 @@
+use borrow.Author.Needs.{needs}
+use Rattle.times.proofs.meanings.good_start.Statement.{statement}
+use Rattle.times.proofs.meanings.good_start.Tie as tie
+
+pub good-start-spec : {M : Type 1} → statement M
+good-start-spec =
+    tie.close
+    (tie.spec
+    (λ c. search needs)  -- enum-known-t
+    (λ c κs. search needs)  -- day-clock-requires
+    (λ c. search needs)  -- enum-known-t-2
+    (λ c κs. search needs)  -- day-clock-requires-2
+    (λ c. rw (c .before .before .t .given .1) (c .day-clock .ensures))  -- returns
+    (λ c. rw (c .before .before .t2 .given .1) (c .day-clock2 .ensures)))  -- returns-2

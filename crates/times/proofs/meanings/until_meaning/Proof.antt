@@ -1,0 +1,26 @@
+use borrow.Author.Needs.{needs}
+use mathlib.Core.Path.{sym, _∙_}
+use Rattle.times.specs.Meanings.{spanMeaning}
+use Rattle.times.proofs.meanings.until_meaning.Statement.{statement}
+use Rattle.times.proofs.meanings.until_meaning.Tie as tie
+
+pub until-meaning-spec : {M : Type 1} → statement M
+unfolding spanMeaning
+until-meaning-spec =
+    tie.close
+    (tie.spec
+    (λ c κs. search needs)  -- good-until-requires
+    (λ c κs. search needs)  -- time-of-requires
+    (λ c κs. search needs)  -- time-of-requires-2
+    (λ c κs. search needs)  -- repeat-of-requires
+    (λ c κs. search needs)  -- open-end-of-requires
+    (λ c. λ m. let b = c .before .before .before in
+    rw (
+      sym (b .before .before .good-until .ensures)
+          ∙ b .before .if1 .taken,
+      b .time-of .ensures,
+      c .before .before .time-of2 .ensures,
+      c .before .repeat-of .ensures,
+      c .open-end-of .ensures,
+    ))  -- returns
+    (λ c. λ m. rw (sym (c .before .good-until .ensures) ∙ c .if1 .left)))  -- returns-2

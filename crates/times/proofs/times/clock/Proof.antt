@@ -1,0 +1,36 @@
+use borrow.Author.Needs.{needs}
+use native.Mathlib.Omega.{arith}
+use Rattle.names.proofs.Facts.{Was, was, Went, went}
+use Rattle.times.specs.Times.{clock}
+use Rattle.times.proofs.times.clock.Statement.{statement}
+use Rattle.times.proofs.times.clock.Tie as tie
+
+abbrev hours : tie.After-hours → Was
+hours c = was (c .before .before .hour .ensures) (c .hours .given .1)
+
+abbrev colon : tie.After-colon → Was × Went
+colon c = (hours (c .before .before .before .before), went (c .before .before .sign .ensures) (c .colon .given .1))
+
+abbrev minutes : tie.After-minutes → (Was × Went) × Was
+minutes c = (colon (c .before .before .before .before), was (c .before .before .minute .ensures) (c .minutes .given .1))
+
+pub clock-spec : {M : Type 1} → statement M
+unfolding clock
+clock-spec =
+    tie.close
+    (tie.spec
+    (λ c κs. search needs)  -- hour-requires
+    (λ c. search needs)  -- enum-known-hours
+    (λ c. search needs)  -- enum-told
+    (λ c. let v = was (c .before .before .hour .ensures) (c .enum-told .given .1) in rw (v .is))  -- returns
+    (λ c κs. search needs)  -- sign-requires
+    (λ c. search needs)  -- enum-known-colon
+    (λ c. search needs)  -- enum-told-2
+    (λ c. let w = hours (c .before .before .before .before) in let v = went (c .before .before .sign .ensures) (c .enum-told2 .given .1) in rw (w .is, v .is))  -- returns-2
+    (λ c κs. search needs)  -- minute-requires
+    (λ c. search needs)  -- enum-known-minutes
+    (λ c. search needs)  -- enum-told-3
+    (λ c. let w = colon (c .before .before .before .before) in let v = was (c .before .before .minute .ensures) (c .enum-told3 .given .1) in rw (w .0 .is, w .1 .is, v .is))  -- returns-3
+    (λ c. omega (arith, minutes (c .before) .0 .0 .small))  -- cast-t11
+    (λ c. omega (arith, minutes (c .before) .1 .small))  -- cast-t12
+    (λ c. let w = minutes (c .before) in rw (w .0 .0 .is, w .0 .1 .is, w .1 .is)))  -- returns-4

@@ -1,0 +1,222 @@
+// What a span means: its numbers' ranges, and the item.
+ghost use mathlib.Core.Path.{_≡_};
+ghost use Rattle.names.specs.declared.Manner.{Manner};
+ghost use Rattle.times.specs.Shapes.{Alone, Open, Until};
+ghost use Rattle.times.specs.Meanings as meanings;
+use crate::Clock;
+use crate::RawTail;
+use crate::RawTime;
+use names::Manner;
+use names::POINT_IN_TIME;
+use names::RANGE;
+use records::Item;
+use records::Meant;
+use records::Repeat;
+use records::Signed;
+use records::Span;
+use records::Time;
+
+// Minutes since midnight.
+fn minutes_of(c: Clock) -> u16
+    ensures { λ r. ⌜ r ≡ meanings.minutesOf c ⌝ }
+{
+    (c.hour as u16) * 60 + (c.minute as u16)
+}
+
+// Hour 0 to 23 with 24:00 besides, MM 0 to 59.
+fn day_clock(c: Clock) -> bool
+    ensures { λ r. ⌜ r ≡ meanings.dayClock c ⌝ }
+{
+    if c.minute <= 59 {
+        if c.hour <= 23 {
+            true
+        } else {
+            minutes_of(c) == 1440
+        }
+    } else {
+        false
+    }
+}
+
+// As a span's end 0:00 to 48:00.
+fn end_clock(c: Clock) -> bool
+    ensures { λ r. ⌜ r ≡ meanings.endClock c ⌝ }
+{
+    if c.minute <= 59 {
+        minutes_of(c) <= 2880
+    } else {
+        false
+    }
+}
+
+// A repeat: `/24:00` is out of range.
+fn repeat_clock(c: Clock) -> bool
+    ensures { λ r. ⌜ r ≡ meanings.repeatClock c ⌝ }
+{
+    if c.minute <= 59 { c.hour <= 23 } else { false }
+}
+
+// A start in range.
+fn good_start(t: RawTime) -> bool
+    ensures { λ r. ⌜ r ≡ meanings.goodStart t ⌝ }
+{
+    match t {
+        RawTime::Fixed(c) => day_clock(c),
+        RawTime::Sun(_, _, c) => day_clock(c),
+    }
+}
+
+// An end in range.
+fn good_end(t: RawTime) -> bool
+    ensures { λ r. ⌜ r ≡ meanings.goodEnd t ⌝ }
+{
+    match t {
+        RawTime::Fixed(c) => end_clock(c),
+        RawTime::Sun(_, _, c) => day_clock(c),
+    }
+}
+
+// A tail in range.
+fn good_tail(t: RawTail) -> bool
+    ensures { λ r. ⌜ r ≡ meanings.goodTail t ⌝ }
+{
+    match t {
+        RawTail::Nothing => true,
+        RawTail::Plus => true,
+        RawTail::Minutes(m) => m <= 59,
+        RawTail::Hours(c) => repeat_clock(c),
+    }
+}
+
+// Two times and a tail in range.
+fn good_until(a: RawTime, b: RawTime, t: RawTail) -> bool
+    ensures { λ x. ⌜ x ≡ meanings.goodSpan (Until a b t) ⌝ }
+{
+    if good_start(a) {
+        if good_end(b) { good_tail(t) } else { false }
+    } else {
+        false
+    }
+}
+
+// An event by its number, with minutes added or taken off.
+fn event_of(e: u8, minutes: Signed) -> Time
+    ensures { λ r. ⌜ r ≡ meanings.eventOf e minutes ⌝ }
+{
+    if e == 1 {
+        return Time::Dawn(minutes);
+    }
+    if e == 2 {
+        return Time::Sunrise(minutes);
+    }
+    if e == 3 {
+        return Time::Sunset(minutes);
+    }
+    Time::Dusk(minutes)
+}
+
+// A clock time in minutes, or an event with minutes added or taken off.
+fn time_of(t: RawTime) -> Time
+    ensures { λ r. ⌜ r ≡ meanings.timeOf t ⌝ }
+{
+    match t {
+        RawTime::Fixed(c) => Time::Fixed(minutes_of(c)),
+        RawTime::Sun(e, negative, c) => {
+            let n = minutes_of(c);
+            event_of(e, Signed { negative, n })
+        }
+    }
+}
+
+// The repeat.
+fn repeat_of(t: RawTail) -> Repeat
+    ensures { λ r. ⌜ r ≡ meanings.repeatOf t ⌝ }
+{
+    match t {
+        RawTail::Nothing => Repeat::Never,
+        RawTail::Plus => Repeat::Never,
+        RawTail::Minutes(m) => Repeat::Every(m as u16),
+        RawTail::Hours(c) => Repeat::Every(minutes_of(c)),
+    }
+}
+
+// Whether the end is open.
+fn open_end_of(t: RawTail) -> bool
+    ensures { λ r. ⌜ r ≡ meanings.openEndOf t ⌝ }
+{
+    match t {
+        RawTail::Nothing => false,
+        RawTail::Plus => true,
+        RawTail::Minutes(_) => false,
+        RawTail::Hours(_) => false,
+    }
+}
+
+// What a time alone is: a span that ends where it starts in the second edition, and else refused.
+fn alone_of(m: Manner, t: RawTime) -> Meant
+    ensures { λ x. ⌜ x ≡ meanings.aloneOf m t ⌝ }
+{
+    match m {
+        Manner::Second => {
+            let only = time_of(t);
+            Meant::Is(Item::Times(Span {
+                start: only,
+                end: only,
+                repeats: Repeat::Never,
+                open_end: false,
+                point: true,
+            }))
+        }
+        _ => Meant::Refused(POINT_IN_TIME),
+    }
+}
+
+// The meaning of a time alone.
+pub fn alone_meaning(m: Manner, only: RawTime) -> Meant
+    ensures { λ x. ⌜ x ≡ meanings.spanMeaning m (Alone only) ⌝ }
+{
+    if good_start(only) {
+        alone_of(m, only)
+    } else {
+        Meant::Refused(RANGE)
+    }
+}
+
+// The meaning of a time and a plus: `10:00+` ends at 24:00, open.
+pub fn open_meaning(t: RawTime) -> Meant
+    ensures { λ x. ⌜ ((m : Manner) → x ≡ meanings.spanMeaning m (Open t)) ⌝ }
+{
+    if good_start(t) {
+        let start = time_of(t);
+        Meant::Is(Item::Times(Span {
+            start,
+            end: Time::Fixed(1440),
+            repeats: Repeat::Never,
+            open_end: true,
+            point: false,
+        }))
+    } else {
+        Meant::Refused(RANGE)
+    }
+}
+
+// The meaning of two times and what stands after the end.
+pub fn until_meaning(a: RawTime, b: RawTime, t: RawTail) -> Meant
+    ensures { λ x. ⌜ ((m : Manner) → x ≡ meanings.spanMeaning m (Until a b t)) ⌝ }
+{
+    if good_until(a, b, t) {
+        let start = time_of(a);
+        let end = time_of(b);
+        let repeats = repeat_of(t);
+        let open_end = open_end_of(t);
+        Meant::Is(Item::Times(Span {
+            start,
+            end,
+            repeats,
+            open_end,
+            point: false,
+        }))
+    } else {
+        Meant::Refused(RANGE)
+    }
+}

@@ -1,0 +1,110 @@
+// Time: `H:MM`, or an event, or `(event±H:MM)`.
+ghost use mathlib.Core.Path.{_≡_};
+ghost use Rattle.times.specs.Times as times;
+ghost use Rattle.times.specs.Seen.{seenClock, seenTime};
+use crate::Clock;
+use crate::ClockRead;
+use crate::RawTime;
+use crate::TimeRead;
+use names::Cursor;
+use names::EVENT;
+use names::Num;
+use names::Step;
+
+// `H:MM`
+pub fn clock(s: &[u8], c: Cursor) -> ClockRead
+    ensures { λ r. ⌜ times.clock (now (s .entry)) (c .at) ≡ seenClock r ⌝ }
+{
+    let hours = c.hour(s);
+    let Num::Got(h, d) = hours else {
+        return ClockRead::Missing;
+    };
+    let colon = d.sign(s, b':');
+    let Step::Got(e) = colon else {
+        return ClockRead::Missing;
+    };
+    let minutes = e.minute(s);
+    let Num::Got(m, f) = minutes else {
+        return ClockRead::Missing;
+    };
+    ClockRead::Got(
+        Clock {
+            hour: h as u8,
+            minute: m as u8,
+        },
+        f,
+    )
+}
+
+// A clock time that is added to an event, or taken off.
+fn sun(event: u8, negative: bool, time: ClockRead) -> TimeRead
+    ensures { λ r. ⌜ times.sunOf event negative (seenClock time) ≡ seenTime r ⌝ }
+{
+    match time {
+        ClockRead::Got(t, c) => TimeRead::Got(RawTime::Sun(event, negative, t), c),
+        ClockRead::Missing => TimeRead::Missing,
+    }
+}
+
+// After `(` and an event: `±H:MM`.
+fn with_offset(s: &[u8], c: Cursor, event: u8) -> TimeRead
+    ensures { λ r. ⌜ times.withOffset event (now (s .entry)) (c .at) ≡ seenTime r ⌝ }
+{
+    let plus = c.sign(s, b'+');
+    if let Step::Got(d) = plus {
+        return sun(event, false, clock(s, d));
+    }
+    let minus = c.sign(s, b'-');
+    let Step::Got(e) = minus else {
+        return TimeRead::Missing;
+    };
+    sun(event, true, clock(s, e))
+}
+
+// `(event±H:MM)`
+fn event_with_offset(s: &[u8], c: Cursor) -> TimeRead
+    ensures { λ r. ⌜ times.eventWithOffset (now (s .entry)) (c .at) ≡ seenTime r ⌝ }
+{
+    let left = c.sign(s, b'(');
+    let Step::Got(d) = left else {
+        return TimeRead::Missing;
+    };
+    let name = d.name(s, EVENT);
+    let Num::Got(event, e) = name else {
+        return TimeRead::Missing;
+    };
+    let time = with_offset(s, e, event as u8);
+    let TimeRead::Got(t, f) = time else {
+        return TimeRead::Missing;
+    };
+    let right = f.sign(s, b')');
+    let Step::Got(g) = right else {
+        return TimeRead::Missing;
+    };
+    TimeRead::Got(t, g)
+}
+
+// An event, or `(event±H:MM)`.
+pub fn event_time(s: &[u8], c: Cursor) -> TimeRead
+    ensures { λ r. ⌜ times.eventTime (now (s .entry)) (c .at) ≡ seenTime r ⌝ }
+{
+    let name = c.name(s, EVENT);
+    if let Num::Got(event, e) = name {
+        return TimeRead::Got(
+            RawTime::Sun(event as u8, false, Clock { hour: 0, minute: 0 }),
+            e,
+        );
+    }
+    event_with_offset(s, c)
+}
+
+// A time.
+pub fn raw_time(s: &[u8], c: Cursor) -> TimeRead
+    ensures { λ r. ⌜ times.rawTime (now (s .entry)) (c .at) ≡ seenTime r ⌝ }
+{
+    let fixed = clock(s, c);
+    match fixed {
+        ClockRead::Got(t, d) => TimeRead::Got(RawTime::Fixed(t), d),
+        ClockRead::Missing => event_time(s, c),
+    }
+}
