@@ -59,7 +59,9 @@ fn row_of(text: &str) -> Row {
 fn rows() -> Vec<Row> {
     let text = lines_of("crates/demands/proofs/Proved.antt").unwrap().join(&b'\n');
     let text = String::from_utf8(text).unwrap();
-    between(&text, "\nrows =\n", "\n\n").split("record { ").skip(1).map(row_of).collect()
+    // A row may stand on one line or on several.
+    let rows: Vec<_> = between(&text, "\nrows =\n", "\n\n").lines().map(str::trim).collect();
+    rows.join(" ").split("record { ").skip(1).map(row_of).collect()
 }
 
 #[test]
