@@ -7,7 +7,7 @@ use lib.IntN.{ℤ}
 use Rattle.names.specs.declared.Manner.{Manner}
 use Rattle.sheet.specs.Sheets.{sheetReadingBy, sheetReadingBytesBy}
 use Rattle.sheet.specs.PartReadings.{partReadingBy, partReadingBytesBy}
-use Rattle.sheet.specs.Notes.{Bytes, Part, notePart, numbersOf, noteOf}
+use Rattle.sheet.specs.Notes.{Bytes, CutFrom, notePart, numbersOf, noteOf}
 use Rattle.sheet.specs.declared.Answer.{Answer}
 use Rattle.sheet.specs.declared.PartAnswer.{PartAnswer}
 use Rattle.sheet.specs.declared.NotePart.{NotePart}
@@ -42,7 +42,7 @@ note-part-one-answer sheet note a n d e = ap (λ (x : Bool × (ℕ × ℕ)). rec
 
 -- note: where its bytes stand, and the bytes
 pub note-one-answer : (sheet note : Bytes) (a n : ℤ) {place place′ : ℕ × ℕ} {bytes bytes′ : List ℕ} →
-    Part (noteOf sheet note a n) place bytes → Part (noteOf sheet note a n) place′ bytes′ → (place ≡ place′) × (bytes ≡ bytes′)
+    CutFrom (noteOf sheet note a n) place bytes → CutFrom (noteOf sheet note a n) place′ bytes′ → (place ≡ place′) × (bytes ≡ bytes′)
 note-one-answer sheet note a n d e = (one (d .0) (e .0), one (d .1) (e .1))
 
 -- read_feed: the answer, and both tables afterwards

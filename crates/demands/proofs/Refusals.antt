@@ -68,43 +68,43 @@ part-empty m s p n =
 -- ---- so it leaves the table
 
 -- in words as in bytes
-kept : {A : Type 0} (d : Layout A) (t : List A) (number records warnings : ℕ) (rs : List (List ℤ)) → Empty number records warnings rs →
+table-left : {A : Type 0} (d : Layout A) (t : List A) (number records warnings : ℕ) (rs : List (List ℤ)) → Empty number records warnings rs →
     Untouched number records warnings t (tableAfterAs d t rs)
 unfolding laid
-kept d t number records warnings rs h x = (h x .0, h x .1, ap (tableAfterAs d t) (h x .2))
+table-left d t number records warnings rs h x = (h x .0, h x .1, ap (tableAfterAs d t) (h x .2))
 
 module _ (m : Manner) (s : List ℕ) where
   -- a sheet into a table of words
   pub sheet-untouched : (t : List ℤ) {a : Answer} {after : List ℤ} → (a, after) ≡ sheetReadingBy m s t → Untouched (a .number) (a .records) (a .warnings) t after
   unfolding sheetReadingBy
-  sheet-untouched t e = subst (λ r. Untouched (r .0 .number) (r .0 .records) (r .0 .warnings) t (r .1)) (sym e) (kept _ t _ _ _ _ (sheet-empty m s _))
+  sheet-untouched t e = subst (λ r. Untouched (r .0 .number) (r .0 .records) (r .0 .warnings) t (r .1)) (sym e) (table-left _ t _ _ _ _ (sheet-empty m s _))
 
   -- and of bytes
   pub sheet-bytes-untouched : (t : List ℕ) {a : Answer} {after : List ℕ} → (a, after) ≡ sheetReadingBytesBy m s t → Untouched (a .number) (a .records) (a .warnings) t after
   unfolding sheetReadingBytesBy
-  sheet-bytes-untouched t e = subst (λ r. Untouched (r .0 .number) (r .0 .records) (r .0 .warnings) t (r .1)) (sym e) (kept _ t _ _ _ _ (sheet-empty m s _))
+  sheet-bytes-untouched t e = subst (λ r. Untouched (r .0 .number) (r .0 .records) (r .0 .warnings) t (r .1)) (sym e) (table-left _ t _ _ _ _ (sheet-empty m s _))
 
   -- by C
   pub sheet-call-untouched : (t : List ℕ) {number place records warnings : ℕ} {after : List ℕ} →
       (number ∷ place ∷ records ∷ warnings ∷ [], after) ≡ sheetCallBy m s t → Untouched number records warnings t after
   unfolding sheetCallBy sheetReadingBytesBy
-  sheet-call-untouched t e = subst (λ r. Untouched (getD (r .0) 0 0) (getD (r .0) 2 0) (getD (r .0) 3 0) t (r .1)) (sym e) (kept _ t _ _ _ _ (sheet-empty m s _))
+  sheet-call-untouched t e = subst (λ r. Untouched (getD (r .0) 0 0) (getD (r .0) 2 0) (getD (r .0) 3 0) t (r .1)) (sym e) (table-left _ t _ _ _ _ (sheet-empty m s _))
 
   -- a part into a table of words
   pub part-untouched : (p : ℕ) (t : List ℤ) {a : PartAnswer} {after : List ℤ} → (a, after) ≡ partReadingBy m s p t → Untouched (a .number) (a .records) (a .warnings) t after
   unfolding partReadingBy
-  part-untouched p t e = subst (λ r. Untouched (r .0 .number) (r .0 .records) (r .0 .warnings) t (r .1)) (sym e) (kept _ t _ _ _ _ (part-empty m s p _))
+  part-untouched p t e = subst (λ r. Untouched (r .0 .number) (r .0 .records) (r .0 .warnings) t (r .1)) (sym e) (table-left _ t _ _ _ _ (part-empty m s p _))
 
   -- and of bytes
   pub part-bytes-untouched : (p : ℕ) (t : List ℕ) {a : PartAnswer} {after : List ℕ} → (a, after) ≡ partReadingBytesBy m s p t → Untouched (a .number) (a .records) (a .warnings) t after
   unfolding partReadingBytesBy
-  part-bytes-untouched p t e = subst (λ r. Untouched (r .0 .number) (r .0 .records) (r .0 .warnings) t (r .1)) (sym e) (kept _ t _ _ _ _ (part-empty m s p _))
+  part-bytes-untouched p t e = subst (λ r. Untouched (r .0 .number) (r .0 .records) (r .0 .warnings) t (r .1)) (sym e) (table-left _ t _ _ _ _ (part-empty m s p _))
 
   -- by C
   pub part-call-untouched : (p : ℕ) (t : List ℕ) {number place records warnings next last : ℕ} {after : List ℕ} →
       (number ∷ place ∷ records ∷ warnings ∷ next ∷ last ∷ [], after) ≡ partCallBy m s p t → Untouched number records warnings t after
   unfolding partCallBy partReadingBytesBy
-  part-call-untouched p t e = subst (λ r. Untouched (getD (r .0) 0 0) (getD (r .0) 2 0) (getD (r .0) 3 0) t (r .1)) (sym e) (kept _ t _ _ _ _ (part-empty m s p _))
+  part-call-untouched p t e = subst (λ r. Untouched (getD (r .0) 0 0) (getD (r .0) 2 0) (getD (r .0) 3 0) t (r .1)) (sym e) (table-left _ t _ _ _ _ (part-empty m s p _))
 
 -- ---- the calls with an edition: in a known one the same, and 19 writes nothing
 

@@ -34,23 +34,23 @@ use Rattle.demands.specs.Together.{Reading, PartReading, Every, total, i
 -- ---- records in a table
 
 -- records that a table of n words holds, with w warnings, or 10 at p
-abbrev kept : ℕ → ℕ → List (List ℤ) → ℕ → Reading
-kept n p rs w = if ltb (n / 16) (length rs) then refusal 10 p else (answerOf 0 0 (length rs) w, rs)
+abbrev held : ℕ → ℕ → List (List ℤ) → ℕ → Reading
+held n p rs w = if ltb (n / 16) (length rs) then refusal 10 p else (answerOf 0 0 (length rs) w, rs)
 
 -- records that it holds
-kept-all : (n p : ℕ) (rs : List (List ℤ)) (w : ℕ) → length rs ≤ n / 16 → kept n p rs w ≡ (answerOf 0 0 (length rs) w, rs)
-kept-all n p rs w h = rw (le-ltb (n / 16) (length rs) h)
+held-all : (n p : ℕ) (rs : List (List ℤ)) (w : ℕ) → length rs ≤ n / 16 → held n p rs w ≡ (answerOf 0 0 (length rs) w, rs)
+held-all n p rs w h = rw (le-ltb (n / 16) (length rs) h)
 
 -- and records that it does not
-kept-none : (n p : ℕ) (rs : List (List ℤ)) (w : ℕ) → n / 16 < length rs → kept n p rs w ≡ refusal 10 p
-kept-none n p rs w h = rw (lt-ltb (n / 16) (length rs) h)
+held-none : (n p : ℕ) (rs : List (List ℤ)) (w : ℕ) → n / 16 < length rs → held n p rs w ≡ refusal 10 p
+held-none n p rs w h = rw (lt-ltb (n / 16) (length rs) h)
 
 -- those that are accepted, it holds
-kept-fits : (n p : ℕ) (rs : List (List ℤ)) (w : ℕ) → kept n p rs w .0 .number ≡ 0 → length rs ≤ n / 16
-kept-fits n p rs w = go (decLt (n / 16) (length rs))
+held-fits : (n p : ℕ) (rs : List (List ℤ)) (w : ℕ) → held n p rs w .0 .number ≡ 0 → length rs ≤ n / 16
+held-fits n p rs w = go (decLt (n / 16) (length rs))
   where
-    go : Dec (n / 16 < length rs) → kept n p rs w .0 .number ≡ 0 → length rs ≤ n / 16
-    go (yes h) e = let z : _≡_ {A = ℕ} 10 0 = rw (kept-none n p rs w h) at e in omega arith
+    go : Dec (n / 16 < length rs) → held n p rs w .0 .number ≡ 0 → length rs ≤ n / 16
+    go (yes h) e = let z : _≡_ {A = ℕ} 10 0 = rw (held-none n p rs w h) at e in omega arith
     go (no h) e = omega arith
 
 -- ---- two texts
@@ -79,17 +79,17 @@ two-refused n a b r h k =
     }
 
 -- the records of both
-two-kept : (n p q o : ℕ) (x y : List (List ℤ)) (v w : ℕ) → Two n (kept n p x v) (kept n q y w) (kept n o (x ++ y) (v + w))
+two-kept : (n p q o : ℕ) (x y : List (List ℤ)) (v w : ℕ) → Two n (held n p x v) (held n q y w) (held n o (x ++ y) (v + w))
 two-kept n p q o x y v w = go (decLt (n / 16) (length (x ++ y)))
   where
-    go : Dec (n / 16 < length (x ++ y)) → Two n (kept n p x v) (kept n q y w) (kept n o (x ++ y) (v + w))
+    go : Dec (n / 16 < length (x ++ y)) → Two n (held n p x v) (held n q y w) (held n o (x ++ y) (v + w))
     go (yes h) =
-        rw (kept-none n o (x ++ y) (v + w) h)
-        (two-refused n (kept n p x v) (kept n q y w) (refusal 10 o)
-        (λ e f l. omega (arith, length-append x y, rw (kept-all n p x v (kept-fits n p x v e), kept-all n q y w (kept-fits n q y w f)) at l))
+        rw (held-none n o (x ++ y) (v + w) h)
+        (two-refused n (held n p x v) (held n q y w) (refusal 10 o)
+        (λ e f l. omega (arith, length-append x y, rw (held-all n p x v (held-fits n p x v e), held-all n q y w (held-fits n q y w f)) at l))
         (omega arith))
     go (no h) =
-        rw (kept-all n p x v (omega (arith, length-append x y)), kept-all n q y w (omega (arith, length-append x y)), kept-all n o (x ++ y) (v + w) (omega arith))
+        rw (held-all n p x v (omega (arith, length-append x y)), held-all n q y w (omega (arith, length-append x y)), held-all n o (x ++ y) (v + w) (omega arith))
         (record {
           good = λ e f l. refl;
           first = λ e. refl;
@@ -165,7 +165,7 @@ unfolding textOf
 text-fits m s p n = go (judgedRules m s p)
   where
     go : (x : Read (List Rule × Unit {0})) → judgedText s p n x .0 .number ≡ 0 → judgedText s p n x .0 .records ≤ n / 16
-    go (got l j) e = let h = kept-fits n p (records (l .0)) (warningsOf (drop p s)) e in rw (le-ltb (n / 16) (length (records (l .0))) h) h
+    go (got l j) e = let h = held-fits n p (records (l .0)) (warningsOf (drop p s)) e in rw (le-ltb (n / 16) (length (records (l .0))) h) h
     go none e = omega arith
     go (refused k q) e = omega arith
 

@@ -18,10 +18,10 @@ use Rattle.sheet.proofs.PartLaws.{turn}
 
 -- a name does not reach over a `;` outside
 calls-cut : (s t : List ℕ) → insideOf s ≡ false → calls (s ++ 59 ∷ t) (word (s ++ 59 ∷ t) 0) ≡ calls s (word s 0)
-calls-cut s t h = rw (word-local {u = []} .same s (59 ∷ t) 0 (stop-at t) here) (go (word s 0) (word-local {u = []} .ends s (59 ∷ t) 0 (stop-at t) here))
+calls-cut s t h = rw (word-local {u = []} .same s (59 ∷ t) 0 (stop-at t) beginning) (go (word s 0) (word-local {u = []} .ends s (59 ∷ t) 0 (stop-at t) beginning))
   where
-    here : Side false s 0
-    here = record { fits = omega arith; side = h }
+    beginning : Side false s 0
+    beginning = record { fits = omega arith; side = h }
 
     go : (r : Read Word) → Ends (λ j. Past 1 s 0 j × At (59 ∷ t) false s j) r → calls (s ++ 59 ∷ t) (moved keep 0 r) ≡ calls s r
     go (got w j) p = rw (zero-add j, take-append-le j s (59 ∷ t) (p .1 .fits))

@@ -110,15 +110,15 @@ count-past : (j k : ℕ) → j < k → j + suc (k - suc j) ≡ k
 count-past j k h = omega arith
 
 module _ (ls x : List (List ℕ)) (n : ℕ) where
-  abbrev here : ℕ
-  here = roomFor ls n (length ls)
+  abbrev this-line : ℕ
+  this-line = roomFor ls n (length ls)
 
   module _ (l : List ℕ) where
     fits : (k : ℕ) → k ≤ length ls → k < length (ls ++ (l ∷ x))
     fits k h = simp length-append (omega arith)
 
     -- the line itself
-    read-here : (d : Reading) → getD (readings (ls ++ (l ∷ x)) n) (length ls) d ≡ sheetOf l here
+    read-here : (d : Reading) → getD (readings (ls ++ (l ∷ x)) n) (length ls) d ≡ sheetOf l this-line
     read-here d =
         read-is (ls ++ (l ∷ x)) n (length ls) d (fits (length ls) (omega arith))
         ∙ rw (getD-append-seam ls l x [], room-before ls (l ∷ x) n (length ls) (omega arith))
@@ -136,14 +136,14 @@ module _ (ls x : List (List ℕ)) (n : ℕ) where
         read-is (ls ++ (l ∷ x)) n k d g ∙ ap (λ (y : List ℕ). sheetOf y (roomFor (ls ++ (l ∷ x)) n k)) e
 
   -- as many records leave as much room
-  room-same : (l l′ : List ℕ) → sheetOf l′ here .0 .records ≡ sheetOf l here .0 .records → (k : ℕ) → roomFor (ls ++ (l′ ∷ x)) n k ≡ roomFor (ls ++ (l ∷ x)) n k
+  room-same : (l l′ : List ℕ) → sheetOf l′ this-line .0 .records ≡ sheetOf l this-line .0 .records → (k : ℕ) → roomFor (ls ++ (l′ ∷ x)) n k ≡ roomFor (ls ++ (l ∷ x)) n k
   room-same l l′ e k = go (decLt (length ls) k)
     where
-      many : length (sheetOf l′ here .1) ≡ length (sheetOf l here .1)
-      many = sym (sheet-held First l′ here .many) ∙ e ∙ sheet-held First l here .many
+      many : length (sheetOf l′ this-line .1) ≡ length (sheetOf l this-line .1)
+      many = sym (sheet-held First l′ this-line .many) ∙ e ∙ sheet-held First l this-line .many
 
       past : (i : ℕ) → roomFor (ls ++ (l′ ∷ x)) n (length ls + suc i) ≡ roomFor (ls ++ (l ∷ x)) n (length ls + suc i)
-      past i = room-after ls x l′ n i ∙ ap (λ (c : ℕ). roomFor x (here - c * 16) i) many ∙ sym (room-after ls x l n i)
+      past i = room-after ls x l′ n i ∙ ap (λ (c : ℕ). roomFor x (this-line - c * 16) i) many ∙ sym (room-after ls x l n i)
 
       go : Dec (length ls < k) → roomFor (ls ++ (l′ ∷ x)) n k ≡ roomFor (ls ++ (l ∷ x)) n k
       go (yes h) = rw (count-past (length ls) k h) at (past (k - suc (length ls)))

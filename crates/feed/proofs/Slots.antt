@@ -92,8 +92,8 @@ module _ {A : Type 0} (d : Layout A) where
   unfolding freeFrom
   all-from wide rs t k = go (decLt k (length t / d .width))
     where
-      here : k < length t / d .width → keptAll d t k rs ≡ take (k * d .width) t ++ keptAll d (drop (k * d .width) t) 0 rs
-      here h =
+      in-table : k < length t / d .width → keptAll d t k rs ≡ take (k * d .width) t ++ keptAll d (drop (k * d .width) t) 0 rs
+      in-table h =
           let m : k * d .width ≤ length t = omega (arith, free-slot (length t) (d .width) k wide h) in
           let e : k ≡ k + 0 = omega arith in
           ap (λ (x : List A). keptAll d x k rs) (sym (take-append-drop (k * d .width) t))
@@ -106,7 +106,7 @@ module _ {A : Type 0} (d : Layout A) where
           (all-none rs t k (free-none (length t) (d .width) k wide h))
 
       go : Dec (k < length t / d .width) → let w = (if ltb k (length t / d .width) then k * d .width else length t) in keptAll d t k rs ≡ take w t ++ keptAll d (drop w t) 0 rs
-      go (yes h) = rw (lt-ltb k (length t / d .width) h) (here h)
+      go (yes h) = rw (lt-ltb k (length t / d .width) h) (in-table h)
       go (no h) = let l : length t / d .width ≤ k = omega arith in rw (le-ltb k (length t / d .width) l) (none l)
 
 -- ---- in both tables

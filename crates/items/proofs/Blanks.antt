@@ -21,16 +21,16 @@ module _ (p : ℕ → Bool) (s : List ℕ) where
   place : {i j : ℕ} → got (tt {0}) i ≡ got tt j → i ≡ j
   place e = cc
 
-  here : (i j : ℕ) → skip p s i ≡ got tt i → Ended i j
-  here i j h e = let q : i ≡ j = place (sym h ∙ e) in subst (λ (k : ℕ). skip p s k ≡ got tt k) q h
+  stops : (i j : ℕ) → skip p s i ≡ got tt i → Ended i j
+  stops i j h e = let q : i ≡ j = place (sym h ∙ e) in subst (λ (k : ℕ). skip p s k ≡ got tt k) q h
 
   step : (i j : ℕ) → Ended (suc i) j → Dec (i < length s) → (t : Bool) → p (getD s i 0) ≡ t → Ended i j
   step i j f (yes q) true t e = f (sym (skip-more p s i q t) ∙ e)
-  step i j f (yes q) false t e = here i j (skip-stop p s i q t) e
-  step i j f (no q) u t e = here i j (skip-end p s i (omega arith)) e
+  step i j f (yes q) false t e = stops i j (skip-stop p s i q t) e
+  step i j f (no q) u t e = stops i j (skip-end p s i (omega arith)) e
 
   ended : (n i j : ℕ) → length s ≤ n + i → Ended i j
-  ended zero i j h = here i j (skip-end p s i (omega arith))
+  ended zero i j h = stops i j (skip-end p s i (omega arith))
   ended (suc n) i j h = step i j (ended n (suc i) j (omega arith)) (decLt i (length s)) (p (getD s i 0)) refl
 
 pub blanks-again : (s : List ℕ) (i : ℕ) {j : ℕ} → blank s i ≡ got tt j → (blanks s i ≡ got tt j) × (blanks s j ≡ got tt j)

@@ -8,7 +8,7 @@ use Rattle.names.specs.Chain.{chainIn, chain, many, skip}
 use Rattle.names.specs.Texts.{bytes, byte, allOf}
 use Rattle.names.specs.Numbers.{isDigit, digit, upTo, digits, clockAfter, number, year, count, ordinal, short, minutes}
 use Rattle.names.specs.Names.{names, spelledSo, lower, letter, firstOf, word, name, weekday, month, event, modifier, holiday, day}
-use Rattle.names.specs.Spellings.{allSmall, written, spelt}
+use Rattle.names.specs.Spellings.{allSmall, spellingBy, spelt}
 use Rattle.names.specs.declared.Spelling.the-variants.{Small, Capital, Other}
 
 -- numbers: their digits, the greatest width taken, and never before `:` and a digit
@@ -37,5 +37,5 @@ words-right = refl
 
 -- spellings: one capital and then small, all small, or otherwise
 spellings-right : map spelt (bytes "Mo" ∷ bytes "mo" ∷ bytes "MO" ∷ bytes "mO" ∷ bytes "sunset" ∷ bytes "Sunset" ∷ []) ≡ Capital ∷ Small ∷ Other ∷ Other ∷ Small ∷ Capital ∷ []
-unfolding spelt allSmall written within
+unfolding spelt allSmall spellingBy within
 spellings-right = refl

@@ -11,7 +11,7 @@ use borrow.Author.Tests.{le-leb, lt-leb}
 use Rattle.names.specs.Tests.{if_then_else_, within}
 use Rattle.names.specs.Read.{got}
 use Rattle.names.specs.Chain.{skip}
-use Rattle.names.specs.Spellings.{allSmall, written, spelt}
+use Rattle.names.specs.Spellings.{allSmall, spellingBy, spelt}
 use Rattle.names.specs.declared.Spelling.the-variants.{Other}
 use Rattle.names.proofs.Local.{past}
 use Rattle.names.proofs.Cut.{skip-local}
@@ -40,11 +40,11 @@ small-run s (suc n) i j k h = rw (drop-cons s i 0 (omega arith)) (go (λ m. smal
         sym (lt-leb (suc n + i) j (omega arith))
 
 -- so the name from i to e is spelt as its first letter is, or otherwise
-pub spelt-to : (s : List ℕ) (i j e : ℕ) → i < e → e ≤ length s → SmallTo s (i + 1) j → spelt (take (e - i) (drop i s)) ≡ (if leb e j then written (getD s i 0) else Other)
+pub spelt-to : (s : List ℕ) (i j e : ℕ) → i < e → e ≤ length s → SmallTo s (i + 1) j → spelt (take (e - i) (drop i s)) ≡ (if leb e j then spellingBy (getD s i 0) else Other)
 unfolding spelt
 spelt-to s i j e h l k =
     let n = e - (i + 1) in
     let whole : e - i ≡ suc n = omega arith in
     let next : suc i ≡ i + 1 = omega arith in
     let end : n + (i + 1) ≡ e = omega arith in
-    rw (whole, drop-cons s i 0 (omega arith), next) (ap (λ t. if t then written (getD s i 0) else Other) (small-run s n (i + 1) j k (omega arith) ∙ ap (λ m. leb m j) end))
+    rw (whole, drop-cons s i 0 (omega arith), next) (ap (λ t. if t then spellingBy (getD s i 0) else Other) (small-run s n (i + 1) j k (omega arith) ∙ ap (λ m. leb m j) end))

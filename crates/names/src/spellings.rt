@@ -8,8 +8,8 @@ use crate::Spelling;
 use crate::tests::byte_within;
 
 // How a name with this first letter is written, where its others are small.
-fn written(b: u8) -> Spelling
-    ensures { λ r. ⌜ r ≡ spellings.written b ⌝ }
+fn spelling_by(b: u8) -> Spelling
+    ensures { λ r. ⌜ r ≡ spellings.spellingBy b ⌝ }
 {
     if byte_within(b'a', b'z', b) {
         return Spelling::Small;
@@ -22,10 +22,10 @@ fn written(b: u8) -> Spelling
 
 // How a name with this first letter is written, whether its others are small or not.
 pub fn spelt(first: u8, small: bool) -> Spelling
-    ensures { λ r. ⌜ r ≡ (if small then spellings.written first else Spelling.Other) ⌝ }
+    ensures { λ r. ⌜ r ≡ (if small then spellings.spellingBy first else Spelling.Other) ⌝ }
 {
     if small {
-        written(first)
+        spelling_by(first)
     } else {
         Spelling::Other
     }

@@ -14,8 +14,8 @@ pub word : (n : ℕ) → n < 65536 → toZ w32 n ≡ pos n
 word n h = toZ-pos w32 (omega arith)
 
 -- an i32 kept as a word is itself
-pub kept : (z : ℤ) → mag z < 2 ^ 31 → toZ w32 (ofZ w32 z) ≡ z
-kept z h = toZ-ofZ (sfits-of h)
+pub word-fits : (z : ℤ) → mag z < 2 ^ 31 → toZ w32 (ofZ w32 z) ≡ z
+word-fits z h = toZ-ofZ (sfits-of h)
 
 -- minus a u16: a word that fits
 minus-small : (n : ℕ) → n < 65536 → mag (negℤ (pos n)) < 2 ^ 31
@@ -31,4 +31,4 @@ pub minus-fits : (n : ℕ) → n < 65536 → SFits w32 (pos 0 -ℤ toZ w32 n)
 minus-fits n h = rw (minus n h) (sfits-of (minus-small n h))
 
 pub minus-word : (n : ℕ) → n < 65536 → toZ w32 (ofZ w32 (pos 0 -ℤ toZ w32 n)) ≡ negℤ (pos n)
-minus-word n h = rw (minus n h) (kept (negℤ (pos n)) (minus-small n h))
+minus-word n h = rw (minus n h) (word-fits (negℤ (pos n)) (minus-small n h))

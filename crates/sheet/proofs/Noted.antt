@@ -15,7 +15,7 @@ use lib.Signed.{ltZ, mag, nonNeg}
 use lib.ListN.{length, take, drop}
 use borrow.Author.Tests.{ne-eqb, le-ltb, le-leb, lt-leb}
 use Rattle.names.specs.Tests.{if_then_else_}
-use Rattle.sheet.specs.Notes.{Bytes, notePart, bytesOf, noteOf, Part}
+use Rattle.sheet.specs.Notes.{Bytes, notePart, bytesOf, noteOf, CutFrom}
 
 -- what the machine reads back is 0 where the number is
 pub zero-is : (l : ℤ) → toZ w32 (ofZ w32 l) ≡ l → ofZ w32 l ≡ 0 → l ≡ pos 0
@@ -103,11 +103,11 @@ module _ (sheet note : ℕ) (a l : ℤ) {b : Bool} {from to : ℕ} (e : (b, (fro
 
 -- the bytes that are cut out by these numbers are the note
 module _ (sheet note : Bytes) (a l : ℤ) {b : Bool} {from to : ℕ} (e : (b, (from, to)) ≡ notePart (length (now sheet)) (length (now note)) a l) where
-  chosen : {p : ℕ × ℕ} {x : List ℕ} {c : Bool} → b ≡ c → Part (bytesOf sheet note (c, (from, to))) p x → Part (noteOf sheet note a l) p x
-  chosen {p} {x} t h = subst (λ (r : Bool × (ℕ × ℕ)). Part (bytesOf sheet note r) p x) (sym (ap (λ (c : Bool). (c, (from, to))) t) ∙ e) h
+  chosen : {p : ℕ × ℕ} {x : List ℕ} {c : Bool} → b ≡ c → CutFrom (bytesOf sheet note (c, (from, to))) p x → CutFrom (noteOf sheet note a l) p x
+  chosen {p} {x} t h = subst (λ (r : Bool × (ℕ × ℕ)). CutFrom (bytesOf sheet note r) p x) (sym (ap (λ (c : Bool). (c, (from, to))) t) ∙ e) h
 
-  pub cut-sheet : b ≡ true → Part (noteOf sheet note a l) (ptr sheet .0, from + ptr sheet .1) (take (to - from) (drop from (now sheet)))
+  pub cut-sheet : b ≡ true → CutFrom (noteOf sheet note a l) (ptr sheet .0, from + ptr sheet .1) (take (to - from) (drop from (now sheet)))
   cut-sheet t = chosen t (ap (λ (i : ℕ). (ptr sheet .0, i)) (add-comm from (ptr sheet .1)), refl)
 
-  pub cut-note : b ≡ false → Part (noteOf sheet note a l) (ptr note .0, from + ptr note .1) (take (to - from) (drop from (now note)))
+  pub cut-note : b ≡ false → CutFrom (noteOf sheet note a l) (ptr note .0, from + ptr note .1) (take (to - from) (drop from (now note)))
   cut-note t = chosen t (ap (λ (i : ℕ). (ptr note .0, i)) (add-comm from (ptr note .1)), refl)

@@ -11,7 +11,7 @@ use Rattle.names.specs.Tests.{if_then_else_, within}
 use Rattle.names.specs.Read.{Read, got, Reader, follow, nothing, pure, when, one}
 use Rattle.names.specs.Texts.{allOf}
 use Rattle.names.specs.Names.{Row, Word, names, spelledSo, lower, letter, firstOf, word}
-use Rattle.names.specs.Spellings.{allSmall, written, spelt, warns}
+use Rattle.names.specs.Spellings.{allSmall, spellingBy, spelt, warns}
 use Rattle.names.specs.declared.Spelling.the-variants.{Capital}
 use Rattle.names.proofs.Laws.{one-is, within-below, within-range}
 use Rattle.sheet.specs.Warnings.{isLetter, calls}
@@ -47,7 +47,7 @@ no-letter kind x b l e = ne-eqb _ x (λ q. true≢false (sym (letter-of kind b (
 
 -- a capital and a small letter are spelt so
 spelt-capital : (s : List ℕ) → within 65 90 (getD s 0 0) ≡ true → within 97 122 (getD s 1 0) ≡ true → spelt (take 2 s) ≡ Capital
-unfolding spelt allSmall written
+unfolding spelt allSmall spellingBy
 spelt-capital [] p q = absurd (omega (arith, within-range 65 90 0 p))
 spelt-capital (x ∷ []) p q = absurd (omega (arith, within-range 97 122 0 q))
 spelt-capital (x ∷ y ∷ s) p q = rw (q, within-below 97 122 x (omega (arith, within-range 65 90 x p)), p)

@@ -66,8 +66,8 @@ abbrev pub Known : Type 0
 Known = ℕ × Break
 
 -- these, and tables with its records from a slot on
-abbrev pub kept : Manner → Tables → ℕ → Rule → Known × Tables
-kept m t slot r = ((length (r .1), judgedBy m (ruleBreak r)), allKept t slot (ruleRecords r))
+abbrev pub ruleKept : Manner → Tables → ℕ → Rule → Known × Tables
+ruleKept m t slot r = ((length (r .1), judgedBy m (ruleBreak r)), allKept t slot (ruleRecords r))
 
 -- the same of a rule and what follows it
 abbrev pub both : {A B : Type 0} → (A → B) → A × Next → B × Next
@@ -91,7 +91,7 @@ after-same a b s k l e f = rw (e, f)
 module _ (m : Manner) (t t′ : Tables) (slot separator : ℕ) (s : List ℕ) (i : ℕ) where
   -- what a turn of the loop reads, from what a rule and what parts it from the next are read as
   pub step : {j : ℕ} (y : RuleRead) {z : Read (Known × Next)} → blanks s i ≡ got tt j → ruleInto m t slot separator s j ≡ seenRuleInto y t′ → follow s 0 (seenRule y) afterRule nothing ≡ z →
-      map (both (kept m t slot)) (moreRules m (Another separator)) s i ≡ follow s i z (λ x. pure (both (λ k. (k, t′)) x)) nothing
+      map (both (ruleKept m t slot)) (moreRules m (Another separator)) s i ≡ follow s i z (λ x. pure (both (λ k. (k, t′)) x)) nothing
   unfolding moreRules parted
   step {j} y {z} e f g = rw (e, ← g) (go (rule m separator s j) y f)
     where
@@ -100,15 +100,15 @@ module _ (m : Manner) (t t′ : Tables) (slot separator : ℕ) (s : List ℕ) (i
       changed f k none = refl
       changed f k (refused l p) = refl
 
-      go : (r : Read Rule) (y : RuleRead) → follow s j r (λ x. pure (kept m t slot x)) nothing ≡ seenRuleInto y t′ →
-          follow s i (follow s j r afterRule nothing) (λ x. pure (both (kept m t slot) x)) nothing
+      go : (r : Read Rule) (y : RuleRead) → follow s j r (λ x. pure (ruleKept m t slot x)) nothing ≡ seenRuleInto y t′ →
+          follow s i (follow s j r afterRule nothing) (λ x. pure (both (ruleKept m t slot) x)) nothing
           ≡ follow s i (follow s 0 (seenRule y) afterRule nothing) (λ x. pure (both (λ k. (k, t′)) x)) nothing
       go (got r k) (read.Got items broken c) f =
           let known : Known = (items, broken) in
-          let b : kept m t slot r ≡ (known, t′) = cc in
+          let b : ruleKept m t slot r ≡ (known, t′) = cc in
           let at : k ≡ c .at = cc in
-          changed (both (kept m t slot)) k (afterRule r s k)
-          ∙ sym (after-first (kept m t slot) r s k) ∙ after-same (kept m t slot r) (known, t′) s k (c .at) b at ∙ after-first (λ (n : Known). (n, t′)) known s (c .at)
+          changed (both (ruleKept m t slot)) k (afterRule r s k)
+          ∙ sym (after-first (ruleKept m t slot) r s k) ∙ after-same (ruleKept m t slot r) (known, t′) s k (c .at) b at ∙ after-first (λ (n : Known). (n, t′)) known s (c .at)
           ∙ sym (changed (both (λ (n : Known). (n, t′))) (c .at) (afterRule known s (c .at)))
       go (got r k) (read.Refused l p) f = cc
       go none (read.Got items broken c) f = cc
@@ -128,14 +128,14 @@ pub record Turned (m : Manner) (t t′ : Tables) (slot separator : ℕ) (s : Lis
 
 module _ (m : Manner) (t t′ : Tables) (slot separator : ℕ) (s : List ℕ) (i : ℕ) where
   -- what was found is a rule
-  pub turned : {items k : ℕ} {broken : Break} {n : Next} → map (both (kept m t slot)) (moreRules m (Another separator)) s i ≡ got (((items, broken), t′), n) k →
+  pub turned : {items k : ℕ} {broken : Break} {n : Next} → map (both (ruleKept m t slot)) (moreRules m (Another separator)) s i ≡ got (((items, broken), t′), n) k →
       Turned m t t′ slot separator s i items broken n k
   turned {items} {k} {broken} {n} = go (moreRules m (Another separator) s i) refl (takes m (Another separator) s i) (more-takes m separator s i)
     where
       go : (q : Read (Rule × Next)) → moreRules m (Another separator) s i ≡ q → Ends (λ j. (i < j) × (j ≤ length s)) q → Upto (λ x k. i + suc (length (x .0 .1)) ≤ k) q →
-          follow s i q (λ a. pure (both (kept m t slot) a)) nothing ≡ got (((items, broken), t′), n) k → Turned m t t′ slot separator s i items broken n k
+          follow s i q (λ a. pure (both (ruleKept m t slot) a)) nothing ≡ got (((items, broken), t′), n) k → Turned m t t′ slot separator s i items broken n k
       go (got x j) e p f h =
-          let v : both (kept m t slot) x ≡ (((items, broken), t′), n) = cc in
+          let v : both (ruleKept m t slot) x ≡ (((items, broken), t′), n) = cc in
           let a : length (x .0 .1) ≡ items = ap (λ (y : (Known × Tables) × Next). y .0 .0 .0) v in
           let b : x .1 ≡ n = ap (λ (y : (Known × Tables) × Next). y .1) v in
           let c : j ≡ k = cc in
@@ -152,10 +152,10 @@ module _ (m : Manner) (t t′ : Tables) (slot separator : ℕ) (s : List ℕ) (i
       go (refused l q) e p f h = let z : _≡_ {A = ℕ} 0 1 = cc in absurd (omega arith)
 
   -- what was refused is refused
-  turned-refused : {k p : ℕ} → map (both (kept m t slot)) (moreRules m (Another separator)) s i ≡ refused k p → moreRules m (Another separator) s i ≡ refused k p
+  turned-refused : {k p : ℕ} → map (both (ruleKept m t slot)) (moreRules m (Another separator)) s i ≡ refused k p → moreRules m (Another separator) s i ≡ refused k p
   turned-refused {k} {p} = go (moreRules m (Another separator) s i)
     where
-      go : (q : Read (Rule × Next)) → follow s i q (λ a. pure (both (kept m t slot) a)) nothing ≡ refused k p → q ≡ refused k p
+      go : (q : Read (Rule × Next)) → follow s i q (λ a. pure (both (ruleKept m t slot) a)) nothing ≡ refused k p → q ≡ refused k p
       go (got x j) h = cc
       go none h = cc
       go (refused l q) h = cc
@@ -211,7 +211,7 @@ module _ (m : Manner) (t t′ : Tables) (slot separator : ℕ) (s : List ℕ) (i
       ∙ ap (λ (b : Break). unbroken (slot + (items + 1), t′) b s k) (ap (firstOf (firstOf first broken)) (judged-none m) ∙ first-none (firstOf first broken))
 
   -- by a refusal
-  keeping-refused : (broken : Break) {k p : ℕ} → map (both (kept m t slot)) (moreRules m (Another separator)) s i ≡ refused k p → keeping m t slot broken (Another separator) s i ≡ refused k p
+  keeping-refused : (broken : Break) {k p : ℕ} → map (both (ruleKept m t slot)) (moreRules m (Another separator)) s i ≡ refused k p → keeping m t slot broken (Another separator) s i ≡ refused k p
   keeping-refused broken e = rw (rules-are m (Another separator) s i, turned-refused m t t′ slot separator s i e)
 
 -- from tables t and the place p: so many records are kept, which made the table, with this first break, and the rules from the place i on are left
@@ -267,5 +267,5 @@ module _ (m : Manner) (s : List ℕ) (p : ℕ) (t table table′ : Tables) (slot
   filling-end x = f .reads ∙ keeping-end m table table′ slot separator s i first x
 
   -- a refusal
-  pub filling-refused : {k q : ℕ} → map (both (kept m table slot)) (moreRules m (Another separator)) s i ≡ refused k q → rulesInto m t s p ≡ refused k q
+  pub filling-refused : {k q : ℕ} → map (both (ruleKept m table slot)) (moreRules m (Another separator)) s i ≡ refused k q → rulesInto m t s p ≡ refused k q
   filling-refused e = f .reads ∙ keeping-refused m table table′ slot separator s i first e

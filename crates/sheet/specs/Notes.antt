@@ -37,5 +37,5 @@ abbrev pub noteOf : Bytes → Bytes → ℤ → ℤ → Bytes × (ℕ × ℕ)
 noteOf sheet note a n = bytesOf sheet note (notePart (length (now sheet)) (length (now note)) a n)
 
 -- bytes that are the part of x from a to e: they stand in x, a bytes after its start, and are its bytes up to e
-abbrev pub Part : Bytes × (ℕ × ℕ) → ℕ × ℕ → List ℕ → Type 0
-Part (x, (a, e)) place bytes = (place ≡ (ptr x .0, ptr x .1 + a)) × (bytes ≡ take (e - a) (drop a (now x)))
+abbrev pub CutFrom : Bytes × (ℕ × ℕ) → ℕ × ℕ → List ℕ → Type 0
+CutFrom (x, (a, e)) place bytes = (place ≡ (ptr x .0, ptr x .1 + a)) × (bytes ≡ take (e - a) (drop a (now x)))

@@ -36,7 +36,7 @@ pub fn note_part(sheet: usize, standing: usize, start: i32, length: i32) -> Note
 
 // Its comment out of the sheet, or the caller's standing note, whole, if the length is 0; for numbers outside the sheet the empty part at the note's start.
 pub fn note<'a>(sheet: &'a [u8], standing: &'a [u8], start: i32, length: i32) -> &'a [u8]
-    ensures { λ r. ⌜ notes.Part (notes.noteOf (sheet .entry) (standing .entry) start length) (ptr r) (now r) ⌝ }
+    ensures { λ r. ⌜ notes.CutFrom (notes.noteOf (sheet .entry) (standing .entry) start length) (ptr r) (now r) ⌝ }
 {
     let p = note_part(sheet.len(), standing.len(), start, length);
     let a = p.from;

@@ -1,6 +1,6 @@
 use borrow.Author.Needs.{needs}
 use Rattle.records.specs.Words.{wordsOf}
-use Rattle.records.proofs.Laws.{kept}
+use Rattle.records.proofs.Laws.{word-fits}
 use Rattle.records.proofs.words.dates_words.Statement.{statement}
 use Rattle.records.proofs.words.dates_words.Tie as tie
 
@@ -26,20 +26,20 @@ dates-words-spec =
     let ga = c .before .struct-told .given in
     let gb = c .struct-told2 .given in
     rw (
-      kept (a .result .form) (ga .0 .1),
-      kept (a .result .year) (ga .1 .0 .1),
-      kept (a .result .month) (ga .1 .1 .0 .1),
-      kept (a .result .day) (ga .1 .1 .1 .0 .1),
-      kept (a .result .nth) (ga .1 .1 .1 .1 .0 .1),
-      kept (w1 .result) (w1 .ok),
-      kept (w2 .result) (w2 .ok),
-      kept (b .result .form) (gb .0 .1),
-      kept (b .result .year) (gb .1 .0 .1),
-      kept (b .result .month) (gb .1 .1 .0 .1),
-      kept (b .result .day) (gb .1 .1 .1 .0 .1),
-      kept (b .result .nth) (gb .1 .1 .1 .1 .0 .1),
-      kept (w3 .result) (w3 .ok),
-      kept (w4 .result) (w4 .ok),
+      word-fits (a .result .form) (ga .0 .1),
+      word-fits (a .result .year) (ga .1 .0 .1),
+      word-fits (a .result .month) (ga .1 .1 .0 .1),
+      word-fits (a .result .day) (ga .1 .1 .1 .0 .1),
+      word-fits (a .result .nth) (ga .1 .1 .1 .1 .0 .1),
+      word-fits (w1 .result) (w1 .ok),
+      word-fits (w2 .result) (w2 .ok),
+      word-fits (b .result .form) (gb .0 .1),
+      word-fits (b .result .year) (gb .1 .0 .1),
+      word-fits (b .result .month) (gb .1 .1 .0 .1),
+      word-fits (b .result .day) (gb .1 .1 .1 .0 .1),
+      word-fits (b .result .nth) (gb .1 .1 .1 .1 .0 .1),
+      word-fits (w3 .result) (w3 .ok),
+      word-fits (w4 .result) (w4 .ok),
       ← a .ensures,
       ← w1 .ensures,
       ← w2 .ensures,

@@ -1,6 +1,6 @@
 use borrow.Author.Needs.{needs}
 use native.Mathlib.Omega.{arith}
-use Rattle.records.proofs.Laws.{word, kept}
+use Rattle.records.proofs.Laws.{word, word-fits}
 use Rattle.records.proofs.words.day_words.Statement.{statement}
 use Rattle.records.proofs.words.day_words.Tie as tie
 
@@ -24,7 +24,7 @@ day-words-spec =
       word (c .before .before .before .before .before .args .d .year) (omega arith),
       word (g .0 .0) (omega arith),
       word (g .0 .1 .0) (omega arith),
-      kept
+      word-fits
           (c .word-of .result) (c .word-of .ok),
       c .word-of .ensures,
     ))  -- returns-2

@@ -1,6 +1,6 @@
 use borrow.Author.Needs.{needs}
 use Rattle.records.specs.Words.{wordsOf}
-use Rattle.records.proofs.Laws.{kept}
+use Rattle.records.proofs.Laws.{word-fits}
 use Rattle.records.proofs.words.span_words.Statement.{statement}
 use Rattle.records.proofs.words.span_words.Tie as tie
 
@@ -23,14 +23,14 @@ span-words-spec =
     let ga = c .before .struct-told .given in
     let gb = c .struct-told2 .given in
     rw (
-      kept (a .result .kind) (ga .0 .1),
-      kept (a .result .minutes) (ga .1 .0 .1),
-      kept (b .result .kind) (gb .0 .1),
-      kept (b .result .minutes) (gb .1 .0 .1),
-      kept
+      word-fits (a .result .kind) (ga .0 .1),
+      word-fits (a .result .minutes) (ga .1 .0 .1),
+      word-fits (b .result .kind) (gb .0 .1),
+      word-fits (b .result .minutes) (gb .1 .0 .1),
+      word-fits
           (p .result) (p .ok),
-      kept (o .result) (o .ok),
-      kept (q .result) (q .ok),
+      word-fits (o .result) (o .ok),
+      word-fits (q .result) (q .ok),
       ← a .ensures,
       ← b .ensures,
       ← p .ensures,

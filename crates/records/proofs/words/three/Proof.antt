@@ -1,6 +1,6 @@
 use borrow.Author.Needs.{needs}
 use native.Mathlib.Omega.{arith}
-use Rattle.records.proofs.Laws.{word, kept}
+use Rattle.records.proofs.Laws.{word, word-fits}
 use Rattle.records.proofs.words.three.Statement.{statement}
 use Rattle.records.proofs.words.three.Tie as tie
 
@@ -11,4 +11,4 @@ three-spec =
     (λ c. search needs)  -- cast-t5
     (λ c. search needs)  -- cast-t6
     (λ c. search needs)  -- cast-t7
-    (λ c. let a = c .args in rw (kept (a .kind) (c .fits .kind .sfits), word (a .a) (omega arith), word (a .b) (omega arith), word (a .c) (omega arith))))  -- returns
+    (λ c. let a = c .args in rw (word-fits (a .kind) (c .fits .kind .sfits), word (a .a) (omega arith), word (a .b) (omega arith), word (a .c) (omega arith))))  -- returns

@@ -1,7 +1,7 @@
 use borrow.Author.Needs.{needs}
 use native.Mathlib.Omega.{arith}
 use Rattle.records.specs.Words.{wordsOf}
-use Rattle.records.proofs.Laws.{word, kept}
+use Rattle.records.proofs.Laws.{word, word-fits}
 use Rattle.records.proofs.words.weekdays_words.Statement.{statement}
 use Rattle.records.proofs.words.weekdays_words.Tie as tie
 
@@ -19,7 +19,7 @@ weekdays-words-spec =
     rw (
       word (r .first) (omega arith),
       word (r .last) (omega arith),
-      kept (d .result) (d .ok),
+      word-fits (d .result) (d .ok),
       d .ensures,
       word (r .starts) (omega arith),
       word (r .ends)

@@ -14,13 +14,13 @@ use Rattle.sheet.proofs.part_readings.part_into.Statement.{statement}
 use Rattle.sheet.proofs.part_readings.part_into.Tie as tie
 
 -- a part begins here
-abbrev here : (c : tie.After-part-end) → let a = c .before .before .before .before .before .before .args in begins (now (a .sheet)) (a .place) ≡ true
-here c = sym (c .before .before .begins .ensures) ∙ c .before .if2 .taken
+abbrev the-part : (c : tie.After-part-end) → let a = c .before .before .before .before .before .before .args in begins (now (a .sheet)) (a .place) ≡ true
+the-part c = sym (c .before .before .begins .ensures) ∙ c .before .if2 .taken
 
 -- and ends in the sheet
 stays : (c : tie.After-part-end) → let a = c .before .before .before .before .before .before .args in c .part-end .result ≤ length (now (a .sheet))
 stays c = let a = c .before .before .before .before .before .before .args in
-    omega (arith, c .part-end .ensures, end-fits (now (a .sheet)) (a .place) (begins-fits (now (a .sheet)) (a .place) (here c)))
+    omega (arith, c .part-end .ensures, end-fits (now (a .sheet)) (a .place) (begins-fits (now (a .sheet)) (a .place) (the-part c)))
 
 pub part-into-spec : {M : Type 1} → statement M
 part-into-spec =
@@ -40,7 +40,7 @@ part-into-spec =
     (λ c. search needs)  -- same-length-2
     (λ c. let r = c .before .before .before .before in let e = r .before .before .before .before in let a = e .before .before .before .before .before .before .args in
     rw (c .with-next .ensures, e .part-end .ensures)
-    (part-text (a .m) (now (a .words), now (a .bytes)) (now (a .sheet)) (a .place) (a .size) (e .before .before .before .if1 .left) (here e) (rw
+    (part-text (a .m) (now (a .words), now (a .bytes)) (now (a .sheet)) (a .place) (a .size) (e .before .before .before .if1 .left) (the-part e) (rw
     (e .part-end .ensures) at (r .read-text .ensures))))  -- returns-2
     (λ c. let a = c .before .before .before .before .before .before .args in let u : Tables = (now (a .words), now (a .bytes)) in
     ap (λ r. (r, u)) (c .part-refusal2 .ensures)

@@ -12,7 +12,7 @@ use Rattle.rules.specs.declared.Next.the-variants.{Another}
 use Rattle.sheet.specs.Texts.{moreRules}
 use Rattle.sheet.specs.Seen.{seenParted}
 use Rattle.sheet.specs.declared.Parted.{Parted}
-use Rattle.sheet.proofs.Turns.{both, kept, step, Turned, turned, Filling, filling-begin, filling-more, filling-end, filling-refused}
+use Rattle.sheet.proofs.Turns.{both, ruleKept, step, Turned, turned, Filling, filling-begin, filling-more, filling-end, filling-refused}
 use Rattle.sheet.proofs.texts.fill_rules.Statement.{statement}
 use Rattle.sheet.proofs.texts.fill_rules.Tie as tie
 
@@ -36,7 +36,7 @@ after c = let f = c .before .before .before .before in (f .fill-rule .last .1 .1
 -- what a turn reads, as the code reads it
 abbrev Reads : tie.After-parted Inv-loop μ-loop → Parted → Type 0
 Reads c x = let l = loop c in let s = now (l .before .before .before .args .s) in
-    map (both (kept (l .before .before .before .args .m) (tables c) (l .loop .slot))) (moreRules (l .before .before .before .args .m) (Another (l .loop .separator))) s
+    map (both (ruleKept (l .before .before .before .args .m) (tables c) (l .loop .slot))) (moreRules (l .before .before .before .args .m) (Another (l .loop .separator))) s
     (l .loop .at) ≡ follow s (l .loop .at) (seenParted x) (λ y. pure (both (λ n. (n, after c)) y)) nothing
 
 reads : (c : tie.After-parted Inv-loop μ-loop) {x : Parted} → c .parted .result ≡ x → Reads c x

@@ -1,12 +1,12 @@
 use borrow.Author.Needs.{needs}
 use mathlib.Core.Path.{sym, _∙_}
-use Rattle.names.specs.Spellings.{written}
-use Rattle.names.proofs.spellings.written.Statement.{statement}
-use Rattle.names.proofs.spellings.written.Tie as tie
+use Rattle.names.specs.Spellings.{spellingBy}
+use Rattle.names.proofs.spellings.spelling_by.Statement.{statement}
+use Rattle.names.proofs.spellings.spelling_by.Tie as tie
 
-pub written-spec : {M : Type 1} → statement M
-unfolding written
-written-spec =
+pub spelling-by-spec : {M : Type 1} → statement M
+unfolding spellingBy
+spelling-by-spec =
     tie.close
     (tie.spec
     (λ c κs. search needs)
