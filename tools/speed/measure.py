@@ -117,6 +117,10 @@ def main():
         wall = "" if args.emulated else f"{1e6 * meter.best(words, COMMON, few, 40 * many):.2f}"
         print(f"| {name} | {figures[-1]:,.0f} | {wall} |", flush=True)
 
+    print("\nOther readings of these sheets:\n\n| reading | instructions a sheet |\n|---|---|")
+    for reading in ("parts", "edition-2", "house", "feed"):
+        print(f"| {reading} | {meter.each(ours, COMMON, 10, 110, [reading]):,.0f} |", flush=True)
+
     print("\nInstructions of one reading by the sheet's size in bytes:\n")
     print("| sheet | " + " | ".join(f"{n:,}" for n in SIZES) + " | a byte, at most, by one at 24 |\n|---|" + "---|" * (len(SIZES) + 1))
     growth = []

@@ -7,7 +7,7 @@ here=$(cd "$(dirname "$0")" && pwd)
 . "$here/../archive.sh"
 dir=$root/target/speed
 build "$dir/bench" "$here/bench.c"
-$compiler -O2 -Wall -Wextra -I "$root/include" "$here/bench.c" "$here/reader.c" -o "$dir/bench_c"
+$compiler -O2 -Wall -Wextra -DPLAIN_C -I "$root/include" "$here/bench.c" "$here/reader.c" -o "$dir/bench_c"
 
 # rust FOLDER: the Rust, as the environment has it, if it is not there
 rust() {
