@@ -12,7 +12,7 @@ use Rattle.names.specs.Numbers.{isDigit, digit, upTo, digits, clockAfter, numbe
 use Rattle.names.specs.Names.{names, spelledSo, lower, letter, firstOf, word, name}
 use Rattle.calendar.specs.Calendar.{leap, lastOfFebruary, hasThirty, lastOf, isDay}
 use Rattle.records.specs.Items.{signed}
-use Rattle.records.specs.declared.Signed.{Signed}
+use lib.IntN.{ℤ}
 use Rattle.records.specs.declared.Day.the-variants.{Fixed, Weekday, Easter}
 use Rattle.records.specs.declared.Date.{Date}
 use Rattle.records.specs.declared.DateOffset.{DateOffset}
@@ -25,7 +25,7 @@ use Rattle.dates.specs.Weeks.{weekShape, weekMeaning, weekItem}
 use Rattle.dates.specs.Dates.{optionalYear, backNth, frontNth, nth, weekdayOf, dayOf, dayAfter, date}
 use Rattle.dates.specs.Ends.{untilDate, bareDay, until, endShape, datesAfter}
 use Rattle.dates.specs.BareEnds.{dateOf, nextYear, nextMonth, monthFrom, firstWith, bareEnd, lastDay}
-use Rattle.dates.specs.Meanings.{noOffset, dateMeaning, monthMeaning}
+use Rattle.dates.specs.Meanings.{noOffset, goodNth, dateMeaning, monthMeaning}
 use Rattle.dates.specs.MonthDays.{lastMonth, monthAfter, monthItemAfter, dateItemAfter, monthDayAfter, monthDayItem}
 
 -- years and weeks from first to last, each step'th
@@ -96,7 +96,7 @@ on : ℕ → ℕ → ℕ → Date
 on year month day = dateOf year (Fixed month day)
 
 -- an offset: a weekday to go to, and days
-by : Signed → Signed → DateOffset
+by : ℤ → ℤ → DateOffset
 by wday days = record { wday = wday; days = days }
 
 -- dates from one to another, with their offsets, and with none
@@ -135,7 +135,7 @@ monthDayTexts =
     ∷ []
 
 month-days-right : map (λ e. monthDayItem (bytes (e .0)) (e .1 .0)) monthDayTexts ≡ map (λ e. e .1 .1) monthDayTexts
-unfolding monthDayTexts months on by moved dates monthDayItem monthDayAfter dateItemAfter monthItemAfter monthAfter lastMonth monthMeaning dateMeaning lastDay bareEnd firstWith
+unfolding monthDayTexts months on by moved dates monthDayItem monthDayAfter dateItemAfter monthItemAfter monthAfter lastMonth monthMeaning dateMeaning lastDay bareEnd firstWith goodNth
     monthFrom nextMonth nextYear isDay lastOf lastOfFebruary hasThirty leap datesAfter endShape until bareDay untilDate date dayAfter dayOf weekdayOf nth frontNth backNth
     optionalYear offset wdayOffset anyDays dayOffset plusOrMinus name word firstOf names allOf letter spelledSo lower number digits upTo digit isDigit within clockAfter skip many
     chain chainIn blank blanks byte one ahead

@@ -8,7 +8,7 @@ use Rattle.names.specs.Texts.{sign, blank}
 use Rattle.names.specs.Numbers.{year, short, ordinal}
 use Rattle.names.specs.Names.{Word, word, name, weekday, month, easter}
 use Rattle.records.specs.Items.{signed}
-use Rattle.records.specs.declared.Signed.{Signed}
+use lib.IntN.{ℤ}
 use Rattle.records.specs.declared.Day.{Day}
 use Rattle.records.specs.declared.Day.the-variants.{Fixed, Weekday, Easter}
 use Rattle.dates.specs.declared.Year.{Year}
@@ -20,20 +20,20 @@ unfoldable pub optionalYear : Reader Year
 optionalYear = maybe (do y ← year; blank; pure (Given y)) Absent
 
 -- `-n`
-unfoldable pub backNth : Reader Signed
+unfoldable pub backNth : Reader ℤ
 backNth = do
   sign "-"
   n ← ordinal
   pure (signed true n)
 
 -- `n`
-unfoldable pub frontNth : Reader Signed
+unfoldable pub frontNth : Reader ℤ
 frontNth = do
   n ← ordinal
   pure (signed false n)
 
 -- `n` or `-n`
-unfoldable pub nth : Reader Signed
+unfoldable pub nth : Reader ℤ
 nth = backNth or frontNth
 
 -- after a month and a blank: `Wd[n]` or `Wd[-n]`

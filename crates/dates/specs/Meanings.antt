@@ -1,6 +1,8 @@
 -- What dates and months mean (docs/RULES.md, 4).
 use Prim.Native.Nat.{ℕ}
-use mathlib.Core.Bool.{Bool, true, false, _&&_, not}
+use mathlib.Core.Bool.{Bool, true, false, _&&_, _||_, not}
+use lib.IntN.{ℤ, pos, negsuc}
+use lib.Signed.{leZ}
 use Rattle.names.specs.Tests.{if_then_else_, within}
 use Rattle.names.specs.Refusals.{easterDay, range}
 use Rattle.records.specs.Items.{signed}
@@ -28,10 +30,18 @@ abbrev pub goodYears : Year → Bool
 goodYears Absent = true
 goodYears (Given y) = goodYear y
 
+-- from lo to hi
+abbrev pub between : ℤ → ℤ → ℤ → Bool
+between lo hi n = leZ lo n && leZ n hi
+
+-- n from 1 to 5, from the month's start or from its end
+unfoldable pub goodNth : ℤ → Bool
+goodNth n = between (pos 1) (pos 5) n || between (negsuc 4) (negsuc 0) n
+
 -- D from 1 to 31, n from 1 to 5
 abbrev pub goodDay : Day → Bool
 goodDay (Fixed m d) = within 1 31 d
-goodDay (Weekday m w n) = within 1 5 n.n
+goodDay (Weekday m w n) = goodNth n
 goodDay Easter = true
 
 -- a date in range

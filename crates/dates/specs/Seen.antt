@@ -1,7 +1,7 @@
 -- What an answer of the code says, in the definitions' terms.
 use Prim.Native.Nat.{ℕ}
 use Rattle.names.specs.Read.{Read, got, none}
-use Rattle.records.specs.declared.Signed.{Signed}
+use lib.IntN.{ℤ}
 use Rattle.records.specs.declared.Day.{Day}
 use Rattle.dates.specs.declared.Year.{Year}
 use Rattle.dates.specs.declared.RawRange.{RawRange}
@@ -28,7 +28,7 @@ abbrev pub seenRange : RangeRead → Read RawRange
 seenRange (range.Got x c) = got x (c .at)
 seenRange range.Missing = none
 
-abbrev pub seenNth : NthRead → Read Signed
+abbrev pub seenNth : NthRead → Read ℤ
 seenNth (nth.Got x c) = got x (c .at)
 seenNth nth.Missing = none
 

@@ -16,7 +16,7 @@ use names::Step;
 use names::WEEKDAY;
 use names::Word;
 use records::Day;
-use records::Signed;
+use records::signed;
 
 // [`YYYY` blank]
 pub fn optional_year(s: &[u8], c: Cursor) -> YearThen
@@ -52,13 +52,7 @@ fn back_nth(s: &[u8], c: Cursor) -> NthRead
     let Num::Got(n, e) = number else {
         return NthRead::Missing;
     };
-    NthRead::Got(
-        Signed {
-            negative: true,
-            n: n as u16,
-        },
-        e,
-    )
+    NthRead::Got(signed(true, n as u16), e)
 }
 
 // `n`
@@ -69,13 +63,7 @@ fn front_nth(s: &[u8], c: Cursor) -> NthRead
     let Num::Got(n, d) = number else {
         return NthRead::Missing;
     };
-    NthRead::Got(
-        Signed {
-            negative: false,
-            n: n as u16,
-        },
-        d,
-    )
+    NthRead::Got(signed(false, n as u16), d)
 }
 
 // `n` or `-n`

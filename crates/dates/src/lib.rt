@@ -13,7 +13,6 @@ pub use month_days::month_day_item;
 pub use month_days::month_day_item_after;
 use names::Cursor;
 use records::Day;
-use records::Signed;
 pub use weeks::week_item;
 pub use years::year_item;
 pub use years::year_item_after;
@@ -91,7 +90,7 @@ pub struct YearThen {
 
 // What reading `n` or `-n` finds.
 pub enum NthRead {
-    Got(Signed, Cursor),
+    Got(i16, Cursor),
     Missing,
 }
 

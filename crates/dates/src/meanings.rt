@@ -23,7 +23,7 @@ use records::Day;
 use records::Item;
 use records::Meant;
 use records::MonthSpan;
-use records::Signed;
+use records::signed;
 
 // A year that is there is in range.
 fn good_years(y: Year) -> bool
@@ -35,13 +35,31 @@ fn good_years(y: Year) -> bool
     }
 }
 
+// From lo to hi.
+fn between(lo: i16, hi: i16, n: i16) -> bool
+    ensures { λ r. ⌜ r ≡ meanings.between lo hi n ⌝ }
+{
+    if lo <= n { n <= hi } else { false }
+}
+
+// n from 1 to 5, from the month's start or from its end.
+fn good_nth(n: i16) -> bool
+    ensures { λ r. ⌜ r ≡ meanings.goodNth n ⌝ }
+{
+    if between(1, 5, n) {
+        true
+    } else {
+        between(-5, -1, n)
+    }
+}
+
 // D from 1 to 31, n from 1 to 5.
 fn good_day(d: Day) -> bool
     ensures { λ r. ⌜ r ≡ meanings.goodDay d ⌝ }
 {
     match d {
         Day::Fixed(_, n) => within(1, 31, n as u32),
-        Day::Weekday(_, _, n) => within(1, 5, n.n as u32),
+        Day::Weekday(_, _, n) => good_nth(n),
         Day::Easter => true,
     }
 }
@@ -126,10 +144,7 @@ fn offset_of(o: RawOffset) -> DateOffset
 {
     let wday = o.wday;
     let d = o.days;
-    let days = Signed {
-        negative: d.negative,
-        n: d.n as u16,
-    };
+    let days = signed(d.negative, d.n as u16);
     DateOffset { wday, days }
 }
 
@@ -178,16 +193,7 @@ fn ended(start: Date, before: DateOffset, end: RawEnd) -> Meant
         RawEnd::Nothing => dates_of(start, before, start, before),
         RawEnd::Plus => {
             let last = last_day(start.year);
-            let none = DateOffset {
-                wday: Signed {
-                    negative: false,
-                    n: 0,
-                },
-                days: Signed {
-                    negative: false,
-                    n: 0,
-                },
-            };
+            let none = DateOffset { wday: 0, days: 0 };
             dates_of(start, before, last, none)
         }
         RawEnd::Until(e, p) => {

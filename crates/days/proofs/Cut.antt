@@ -12,7 +12,7 @@ use Rattle.names.proofs.Local.{free, pure-local, then-local, or-local, maybe-lo
 use Rattle.names.proofs.Cut.{byte-local, blank-local, count-local, ordinal-local}
 use Rattle.names.proofs.Chains.{many-local}
 use Rattle.names.proofs.NameCut.{name-local}
-use Rattle.records.specs.declared.Signed.{Signed}
+use lib.IntN.{ℤ}
 use Rattle.records.specs.declared.Item.the-variants.{Holidays}
 use Rattle.records.specs.declared.Meant.the-variants.{Is, Refused}
 use Rattle.records.proofs.Cut.{Alike, Refuses, refuses-if, item-alike}
@@ -107,7 +107,7 @@ module _ {u : List ℕ} where
   holidayShape-alike = then-local (name-local holiday) holidayAfter-alike
 
 -- the meanings refuse by 4 alone
-flagged-refuses : (first last : ℕ) (days : Signed) (starts ends : ℕ) → Refuses (flagged first last days starts ends)
+flagged-refuses : (first last : ℕ) (days : ℤ) (starts ends : ℕ) → Refuses (flagged first last days starts ends)
 unfolding flagged
 flagged-refuses first last days starts ends = refuses-if (eqb starts 0 && eqb ends 0) (weekdaysOf first last days 31 31) (weekdaysOf first last days starts ends) tt tt
 

@@ -11,7 +11,7 @@ use Rattle.names.specs.Numbers.{isDigit, digit, upTo, digits, clockAfter, numbe
 use Rattle.names.specs.declared.Manner.the-variants.{First, Second}
 use Rattle.names.specs.Names.{names, spelledSo, lower, letter, firstOf, word, name}
 use Rattle.records.specs.Items.{signed}
-use Rattle.records.specs.declared.Signed.{Signed}
+use lib.IntN.{ℤ}
 use Rattle.records.specs.declared.Item.{Item}
 use Rattle.records.specs.declared.Item.the-variants.{Weekdays, Holidays}
 use Rattle.days.specs.Offsets.{plusOrMinus, dayOffset, anyDays}
@@ -20,11 +20,11 @@ use Rattle.days.specs.Weekdays.{lastWeekday, bracketed, untilWeekday, wi
 use Rattle.days.specs.Holidays.{holidayAfter, holidayShape, holidayMeaning, holidayItem}
 
 -- so many days later
-days : ℕ → Signed
+days : ℕ → ℤ
 days = signed false
 
 -- weekdays from first to last, their flags from the month's start and end, and the place after them
-weekdays : ℕ → ℕ → Signed → ℕ → ℕ → ℕ → Read Item
+weekdays : ℕ → ℕ → ℤ → ℕ → ℕ → ℕ → Read Item
 weekdays first last d starts ends i = got (Weekdays (record { first = first; last = last; days = d; starts = starts; ends = ends })) i
 
 -- a descending pair sets none, and if no flag of the ten is set, all ten are; a number out of range is refused though it would set none; the longest shape that is complete is taken
@@ -51,7 +51,7 @@ unfolding days weekdays weekdayItem weekdayMeaning flagged weekdayShape wideAfte
 wider-right = refl
 
 -- a holiday and the place after it
-holidays : ℕ → Signed → ℕ → Read Item
+holidays : ℕ → ℤ → ℕ → Read Item
 holidays kind d i = got (Holidays (record { kind = kind; days = d })) i
 
 -- `PH` and `SH` are spelled so; both blanks of a day offset are needed, and its `N` is judged where it is whole

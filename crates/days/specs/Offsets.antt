@@ -6,7 +6,7 @@ use Rattle.names.specs.Texts.{sign, blank}
 use Rattle.names.specs.Numbers.{count}
 use Rattle.names.specs.Names.{name, weekday, day}
 use Rattle.records.specs.Items.{signed, goodCount}
-use Rattle.records.specs.declared.Signed.{Signed}
+use lib.IntN.{ℤ}
 use Rattle.days.specs.declared.RawDays.{RawDays}
 use Rattle.days.specs.declared.RawOffset.{RawOffset}
 
@@ -37,7 +37,7 @@ unfoldable pub anyDays : Reader RawDays
 anyDays = maybe dayOffset noDays
 
 -- `+Wd` or `-Wd`
-unfoldable pub wdayOffset : Reader Signed
+unfoldable pub wdayOffset : Reader ℤ
 wdayOffset = do
   negative ← plusOrMinus
   w ← name weekday
@@ -55,5 +55,5 @@ abbrev pub goodDays : RawDays → Bool
 goodDays d = goodCount d.n
 
 -- days in range
-abbrev pub daysOf : RawDays → Signed
+abbrev pub daysOf : RawDays → ℤ
 daysOf d = signed d.negative d.n

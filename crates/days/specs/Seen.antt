@@ -2,7 +2,7 @@
 use mathlib.Core.Bool.{Bool}
 use Prim.Native.Nat.{ℕ}
 use Rattle.names.specs.Read.{Read, got, none}
-use Rattle.records.specs.declared.Signed.{Signed}
+use lib.IntN.{ℤ}
 use Rattle.records.specs.declared.Meant.{Meant}
 use Rattle.days.specs.declared.RawDays.{RawDays}
 use Rattle.days.specs.declared.RawOffset.{RawOffset}
@@ -35,7 +35,7 @@ abbrev pub seenDays : DaysRead → Read RawDays
 seenDays (days.Got x c) = got x (c .at)
 seenDays days.Missing = none
 
-abbrev pub seenWday : WdayRead → Read Signed
+abbrev pub seenWday : WdayRead → Read ℤ
 seenWday (wday.Got x c) = got x (c .at)
 seenWday wday.Missing = none
 

@@ -10,7 +10,7 @@ use Rattle.names.specs.Refusals.{range}
 use Rattle.names.specs.declared.Manner.{Manner}
 use Rattle.names.specs.declared.Manner.the-variants.{First, Second, House}
 use Rattle.records.specs.Items.{item, meant}
-use Rattle.records.specs.declared.Signed.{Signed}
+use lib.IntN.{ℤ}
 use Rattle.records.specs.declared.Item.{Item}
 use Rattle.records.specs.declared.Item.the-variants.{Weekdays}
 use Rattle.records.specs.declared.Meant.{Meant}
@@ -81,11 +81,11 @@ weekdayShape m = do
   weekdayAfter m first
 
 -- weekdays with these flags
-abbrev pub weekdaysOf : ℕ → ℕ → Signed → ℕ → ℕ → Meant
+abbrev pub weekdaysOf : ℕ → ℕ → ℤ → ℕ → ℕ → Meant
 weekdaysOf first last days starts ends = Is (Weekdays (record { first = first; last = last; days = days; starts = starts; ends = ends }))
 
 -- if no flag of the ten is set, all ten are
-unfoldable pub flagged : ℕ → ℕ → Signed → ℕ → ℕ → Meant
+unfoldable pub flagged : ℕ → ℕ → ℤ → ℕ → ℕ → Meant
 flagged first last days starts ends = if eqb starts 0 && eqb ends 0 then weekdaysOf first last days 31 31 else weekdaysOf first last days starts ends
 
 -- the meaning

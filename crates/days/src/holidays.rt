@@ -12,8 +12,8 @@ use records::Holiday;
 use records::Item;
 use records::ItemRead;
 use records::Meant;
-use records::Signed;
 use records::judged;
+use records::signed;
 
 // The meaning.
 fn holiday_meaning(r: RawHoliday) -> Meant
@@ -21,10 +21,7 @@ fn holiday_meaning(r: RawHoliday) -> Meant
 {
     let d = r.days;
     if d.n <= 32767 {
-        let days = Signed {
-            negative: d.negative,
-            n: d.n as u16,
-        };
+        let days = signed(d.negative, d.n as u16);
         Meant::Is(Item::Holidays(Holiday { kind: r.kind, days }))
     } else {
         Meant::Refused(RANGE)

@@ -10,7 +10,6 @@ use names::Cursor;
 pub use offsets::day_offset;
 pub use offsets::offset;
 use records::Meant;
-use records::Signed;
 pub use weekdays::weekday_item;
 pub use weekdays::weekday_item_after;
 
@@ -20,9 +19,9 @@ pub struct RawDays {
     pub n: u32,
 }
 
-// An offset as it is read: a weekday to go to, the previous where `less`, 0 none; and a number of days.
+// An offset as it is read: a weekday to go to, the previous where it is below 0, 0 none; and a number of days.
 pub struct RawOffset {
-    pub wday: Signed,
+    pub wday: i16,
     pub days: RawDays,
 }
 
@@ -77,7 +76,7 @@ pub enum DaysRead {
 
 // A weekday to go to, and the place after it; or none.
 pub enum WdayRead {
-    Got(Signed, Cursor),
+    Got(i16, Cursor),
     Missing,
 }
 

@@ -14,7 +14,7 @@ use names::DAY;
 use names::Num;
 use names::Step;
 use names::WEEKDAY;
-use records::Signed;
+use records::signed;
 
 // A plus or a minus: whether it is a minus.
 fn plus_or_minus(s: &[u8], c: Cursor) -> SignRead
@@ -87,13 +87,7 @@ fn wday_offset(s: &[u8], c: Cursor) -> WdayRead
     let Num::Got(w, e) = name else {
         return WdayRead::Missing;
     };
-    WdayRead::Got(
-        Signed {
-            negative,
-            n: w as u16,
-        },
-        e,
-    )
+    WdayRead::Got(signed(negative, w as u16), e)
 }
 
 // An offset, or none.
@@ -117,10 +111,7 @@ pub fn offset(s: &[u8], c: Cursor) -> OffsetThen
             let after = only.next;
             OffsetThen {
                 offset: RawOffset {
-                    wday: Signed {
-                        negative: false,
-                        n: 0,
-                    },
+                    wday: 0,
                     days: alone,
                 },
                 next: after,

@@ -25,9 +25,9 @@ use names::WEEKDAY;
 use records::Item;
 use records::ItemRead;
 use records::Meant;
-use records::Signed;
 use records::WeekDayRange;
 use records::judged;
+use records::signed;
 
 // All five flags.
 const ALL: u8 = 31;
@@ -39,10 +39,7 @@ fn plain(first: u8, last: u8) -> Meant
     Meant::Is(Item::Weekdays(WeekDayRange {
         first,
         last,
-        days: Signed {
-            negative: false,
-            n: 0,
-        },
+        days: 0,
         starts: ALL,
         ends: ALL,
     }))
@@ -201,7 +198,7 @@ fn weekday_after(s: &[u8], m: Manner, c: Cursor, first: u8) -> WeekdaysThen
 }
 
 // Weekdays with these flags; if no flag of the ten is set, all ten are.
-fn flagged(first: u8, last: u8, days: Signed, starts: u8, ends: u8) -> Meant
+fn flagged(first: u8, last: u8, days: i16, starts: u8, ends: u8) -> Meant
     ensures { λ r. ⌜ r ≡ weekdays.flagged first last days starts ends ⌝ }
 {
     if starts == 0 {
@@ -234,10 +231,7 @@ fn weekday_meaning(r: RawWeekdays) -> Meant
         if d.n <= 32767 {
             let starts = m.starts;
             let ends = m.ends;
-            let days = Signed {
-                negative: d.negative,
-                n: d.n as u16,
-            };
+            let days = signed(d.negative, d.n as u16);
             flagged(r.first, r.last, days, bits(starts), bits(ends))
         } else {
             Meant::Refused(RANGE)

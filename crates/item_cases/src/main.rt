@@ -15,7 +15,7 @@ use libc::STDOUT_FILENO;
 use names::Cursor;
 use names::Manner;
 use prints::size;
-use records::words_of;
+use records::keep_item;
 
 // A line that is being written: bytes past its end are left out.
 struct Text {
@@ -94,10 +94,15 @@ fn kind_of(b: u8) -> u16 {
 // An answer as a line shows it.
 fn shown(r: Stands) -> Text {
     match r {
-        Stands::Item(item, _, _, c) => Text::new()
-            .put_words(words_of(item))
-            .put_all(b"to ")
-            .put_number(c.at as u64),
+        Stands::Item(item, _, _, c) => {
+            let mut words = [0i32; 16];
+            let mut none = [0u8; 0];
+            keep_item(&mut words, &mut none, 0, item, 0);
+            Text::new()
+                .put_words(words)
+                .put_all(b"to ")
+                .put_number(c.at as u64)
+        }
         Stands::Refused(k, _) => Text::new().put_all(b"refused ").put_number(k as u64),
         Stands::Name(_, _, _) => Text::new().put_all(b"none"),
         Stands::Nothing => Text::new().put_all(b"none"),

@@ -2,8 +2,9 @@
 use Prim.Native.Nat.{ℕ}
 use mathlib.Core.Bool.{Bool}
 use lib.Dec.{leb}
+use lib.IntN.{ℤ, pos, negℤ}
+use Rattle.names.specs.Tests.{if_then_else_}
 use Rattle.names.specs.Read.{Reader, pure, refuse, here, _>>=_}
-use Rattle.records.specs.declared.Signed.{Signed}
 use Rattle.records.specs.declared.Item.{Item}
 use Rattle.records.specs.declared.Meant.{Meant}
 use Rattle.records.specs.declared.Meant.the-variants.{Is, Refused}
@@ -30,5 +31,5 @@ abbrev pub goodCount : ℕ → Bool
 goodCount n = leb n 32767
 
 -- a number that is added, or taken off
-abbrev pub signed : Bool → ℕ → Signed
-signed negative n = record { negative = negative; n = n }
+abbrev pub signed : Bool → ℕ → ℤ
+signed negative n = if negative then negℤ (pos n) else pos n

@@ -2,10 +2,8 @@
 use Prim.Native.Nat.{ℕ, _-_}
 use mathlib.Core.List.{List, [], _∷_, _++_}
 use mathlib.Core.Bool.{Bool, true, false}
-use lib.IntN.{ℤ, pos, negsuc, negℤ}
+use lib.IntN.{ℤ, pos, negsuc}
 use lib.ListN.{length, replicate, set}
-use Rattle.names.specs.Tests.{if_then_else_}
-use Rattle.records.specs.declared.Signed.{Signed}
 use Rattle.records.specs.declared.Day.{Day}
 use Rattle.records.specs.declared.Day.the-variants.{Fixed, Weekday, Easter}
 use Rattle.records.specs.declared.Date.{Date}
@@ -21,27 +19,23 @@ use Rattle.records.specs.declared.Item.the-variants.{Years, Months, Date
 abbrev pub record16 : List ℤ → List ℤ
 record16 ws = ws ++ replicate (16 - length ws) (pos 0)
 
--- a number that is added, or taken off
-abbrev pub wordOf : Signed → ℤ
-wordOf x = if x.negative then negℤ (pos x.n) else pos x.n
-
 -- form, year or 0, month, day or weekday, n signed
 abbrev pub dayWords : ℕ → Day → List ℤ
 dayWords y (Fixed m d) = pos 1 ∷ pos y ∷ pos m ∷ pos d ∷ pos 0 ∷ []
-dayWords y (Weekday m w n) = pos 2 ∷ pos y ∷ pos m ∷ pos w ∷ wordOf n ∷ []
+dayWords y (Weekday m w n) = pos 2 ∷ pos y ∷ pos m ∷ pos w ∷ n ∷ []
 dayWords y Easter = pos 3 ∷ pos y ∷ pos 0 ∷ pos 0 ∷ pos 0 ∷ []
 
 -- a date's seven words: those, its weekday offset and its day offset
 abbrev pub dateWords : Date → DateOffset → List ℤ
-dateWords d o = dayWords d.year d.day ++ (wordOf o.wday ∷ wordOf o.days ∷ [])
+dateWords d o = dayWords d.year d.day ++ (o.wday ∷ o.days ∷ [])
 
 -- kind, 0 for a clock time, and minutes
 abbrev pub timeWords : Time → List ℤ
 timeWords (time.Fixed m) = pos 0 ∷ pos m ∷ []
-timeWords (time.Dawn m) = pos 1 ∷ wordOf m ∷ []
-timeWords (time.Sunrise m) = pos 2 ∷ wordOf m ∷ []
-timeWords (time.Sunset m) = pos 3 ∷ wordOf m ∷ []
-timeWords (time.Dusk m) = pos 4 ∷ wordOf m ∷ []
+timeWords (time.Dawn m) = pos 1 ∷ m ∷ []
+timeWords (time.Sunrise m) = pos 2 ∷ m ∷ []
+timeWords (time.Sunset m) = pos 3 ∷ m ∷ []
+timeWords (time.Dusk m) = pos 4 ∷ m ∷ []
 
 -- the repeat in minutes or -1
 abbrev pub repeatWord : Repeat → ℤ
@@ -59,8 +53,8 @@ itemWords (Years r) = pos 2 ∷ pos r.first ∷ pos r.last ∷ pos r.step ∷ []
 itemWords (Months r) = pos 3 ∷ pos r.year ∷ pos r.first ∷ pos r.last ∷ []
 itemWords (Dates r) = pos 4 ∷ dateWords r.start r.«start_offset» ++ dateWords r.end r.«end_offset»
 itemWords (Weeks r) = pos 5 ∷ pos r.first ∷ pos r.last ∷ pos r.step ∷ []
-itemWords (Weekdays r) = pos 6 ∷ pos r.first ∷ pos r.last ∷ wordOf r.days ∷ pos r.starts ∷ pos r.ends ∷ []
-itemWords (Holidays r) = pos 7 ∷ pos r.kind ∷ wordOf r.days ∷ []
+itemWords (Weekdays r) = pos 6 ∷ pos r.first ∷ pos r.last ∷ r.days ∷ pos r.starts ∷ pos r.ends ∷ []
+itemWords (Holidays r) = pos 7 ∷ pos r.kind ∷ r.days ∷ []
 itemWords (Times r) = pos 8 ∷ timeWords r.start ++ timeWords r.end ++ (repeatWord r.repeats ∷ bit r.«open_end» ∷ bit r.point ∷ [])
 
 -- the 16 words of an item

@@ -7,15 +7,10 @@ mod words;
 
 pub use bytes::put_word;
 pub use items::judged;
+pub use items::signed;
 use names::Cursor;
 pub use tables::keep;
-pub use words::words_of;
-
-// A number that is added, or taken off.
-pub struct Signed {
-    pub negative: bool,
-    pub n: u16,
-}
+pub use tables::keep_item;
 
 // Years from first to last, each step'th.
 pub struct YearRange {
@@ -38,10 +33,10 @@ pub struct MonthSpan {
     pub last: u8,
 }
 
-// What a date has beside its year: a month and a day; a month, a weekday and which one of the month, from its end where `less`; or easter.
+// What a date has beside its year: a month and a day; a month, a weekday and which one of the month, from its end where it is below 0; or easter.
 pub enum Day {
     Fixed(u8, u8),
-    Weekday(u8, u8, Signed),
+    Weekday(u8, u8, i16),
     Easter,
 }
 
@@ -51,10 +46,10 @@ pub struct Date {
     pub day: Day,
 }
 
-// A weekday to go to, the previous where `less`, 0 none; and a number of days.
+// A weekday to go to, the previous where it is below 0, 0 none; and a number of days.
 pub struct DateOffset {
-    pub wday: Signed,
-    pub days: Signed,
+    pub wday: i16,
+    pub days: i16,
 }
 
 // Dates from one to another.
@@ -69,7 +64,7 @@ pub struct DateSpan {
 pub struct WeekDayRange {
     pub first: u8,
     pub last: u8,
-    pub days: Signed,
+    pub days: i16,
     pub starts: u8,
     pub ends: u8,
 }
@@ -77,16 +72,16 @@ pub struct WeekDayRange {
 // A holiday, 1 public, 2 school, and a number of days.
 pub struct Holiday {
     pub kind: u8,
-    pub days: Signed,
+    pub days: i16,
 }
 
 // A clock time in minutes, or a sun event with minutes added or taken off.
 pub enum Time {
     Fixed(u16),
-    Dawn(Signed),
-    Sunrise(Signed),
-    Sunset(Signed),
-    Dusk(Signed),
+    Dawn(i16),
+    Sunrise(i16),
+    Sunset(i16),
+    Dusk(i16),
 }
 
 // Whether a span is repeated, and after how many minutes.

@@ -1,15 +1,15 @@
-// Record words: 16 to a record, unused words are 0.
+// Record words: 16 to a record, unused words are 0, the last is the place in a text of at most 4,096 bytes.
+ghost use Prim.Native.Nat.{_≤_};
 ghost use mathlib.Core.List.{[], _∷_};
 ghost use mathlib.Core.Path.{_≡_};
 ghost use lib.IntN.{pos};
 ghost use Rattle.records.specs.Words as w;
+ghost use Rattle.records.specs.declared.Item.the-variants as item;
 use crate::Date;
 use crate::DateSpan;
 use crate::Day;
 use crate::Holiday;
-use crate::Item;
 use crate::Repeat;
-use crate::Signed;
 use crate::Span;
 use crate::Time;
 use crate::WeekDayRange;
@@ -27,14 +27,6 @@ struct DayWords {
 struct TimeWords {
     kind: i32,
     minutes: i32,
-}
-
-// A number that is added, or taken off.
-fn word_of(x: Signed) -> i32
-    ensures { λ r. ⌜ r ≡ w.wordOf x ⌝ }
-{
-    let n = x.n as i32;
-    if x.negative { -n } else { n }
 }
 
 // The words of a date without its offset.
@@ -56,7 +48,7 @@ fn day_words(d: Date) -> DayWords
             year,
             month: m as i32,
             day: w as i32,
-            nth: word_of(n),
+            nth: n as i32,
         },
         Day::Easter => DayWords {
             form: 3,
@@ -79,19 +71,19 @@ fn time_words(t: Time) -> TimeWords
         },
         Time::Dawn(m) => TimeWords {
             kind: 1,
-            minutes: word_of(m),
+            minutes: m as i32,
         },
         Time::Sunrise(m) => TimeWords {
             kind: 2,
-            minutes: word_of(m),
+            minutes: m as i32,
         },
         Time::Sunset(m) => TimeWords {
             kind: 3,
-            minutes: word_of(m),
+            minutes: m as i32,
         },
         Time::Dusk(m) => TimeWords {
             kind: 4,
-            minutes: word_of(m),
+            minutes: m as i32,
         },
     }
 }
@@ -114,8 +106,9 @@ fn bit(b: bool) -> i32
 }
 
 // A record with three numbers after its kind.
-fn three(kind: i32, a: u16, b: u16, c: u16) -> [i32; 16]
-    ensures { λ r. ⌜ r ≡ w.record16 (kind ∷ pos a ∷ pos b ∷ pos c ∷ []) ⌝ }
+pub fn three(kind: i32, a: u16, b: u16, c: u16, place: usize) -> [i32; 16]
+    requires { ⌜ place ≤ 4096 ⌝ }
+    ensures { λ r. ⌜ r ≡ w.placedAt place (w.record16 (kind ∷ pos a ∷ pos b ∷ pos c ∷ [])) ⌝ }
 {
     [
         kind,
@@ -133,13 +126,14 @@ fn three(kind: i32, a: u16, b: u16, c: u16) -> [i32; 16]
         0,
         0,
         0,
-        0,
+        place as i32,
     ]
 }
 
 // The words of dates.
-fn dates_words(r: DateSpan) -> [i32; 16]
-    ensures { λ x. ⌜ x ≡ w.wordsOf (Item.Dates r) ⌝ }
+pub fn dates_words(r: DateSpan, place: usize) -> [i32; 16]
+    requires { ⌜ place ≤ 4096 ⌝ }
+    ensures { λ x. ⌜ x ≡ w.placedAt place (w.wordsOf (item.Dates r)) ⌝ }
 {
     let start = r.start;
     let end = r.end;
@@ -158,29 +152,30 @@ fn dates_words(r: DateSpan) -> [i32; 16]
         a.month,
         a.day,
         a.nth,
-        word_of(owday),
-        word_of(odays),
+        owday as i32,
+        odays as i32,
         b.form,
         b.year,
         b.month,
         b.day,
         b.nth,
-        word_of(pwday),
-        word_of(pdays),
-        0,
+        pwday as i32,
+        pdays as i32,
+        place as i32,
     ]
 }
 
 // The words of weekdays.
-fn weekdays_words(r: WeekDayRange) -> [i32; 16]
-    ensures { λ x. ⌜ x ≡ w.wordsOf (Item.Weekdays r) ⌝ }
+pub fn weekdays_words(r: WeekDayRange, place: usize) -> [i32; 16]
+    requires { ⌜ place ≤ 4096 ⌝ }
+    ensures { λ x. ⌜ x ≡ w.placedAt place (w.wordsOf (item.Weekdays r)) ⌝ }
 {
     let days = r.days;
     [
         6,
         r.first as i32,
         r.last as i32,
-        word_of(days),
+        days as i32,
         r.starts as i32,
         r.ends as i32,
         0,
@@ -192,19 +187,20 @@ fn weekdays_words(r: WeekDayRange) -> [i32; 16]
         0,
         0,
         0,
-        0,
+        place as i32,
     ]
 }
 
 // The words of a holiday.
-fn holiday_words(r: Holiday) -> [i32; 16]
-    ensures { λ x. ⌜ x ≡ w.wordsOf (Item.Holidays r) ⌝ }
+pub fn holiday_words(r: Holiday, place: usize) -> [i32; 16]
+    requires { ⌜ place ≤ 4096 ⌝ }
+    ensures { λ x. ⌜ x ≡ w.placedAt place (w.wordsOf (item.Holidays r)) ⌝ }
 {
     let days = r.days;
     [
         7,
         r.kind as i32,
-        word_of(days),
+        days as i32,
         0,
         0,
         0,
@@ -217,13 +213,14 @@ fn holiday_words(r: Holiday) -> [i32; 16]
         0,
         0,
         0,
-        0,
+        place as i32,
     ]
 }
 
 // The words of a span.
-fn span_words(r: Span) -> [i32; 16]
-    ensures { λ x. ⌜ x ≡ w.wordsOf (Item.Times r) ⌝ }
+pub fn span_words(r: Span, place: usize) -> [i32; 16]
+    requires { ⌜ place ≤ 4096 ⌝ }
+    ensures { λ x. ⌜ x ≡ w.placedAt place (w.wordsOf (item.Times r)) ⌝ }
 {
     let start = r.start;
     let end = r.end;
@@ -246,21 +243,6 @@ fn span_words(r: Span) -> [i32; 16]
         0,
         0,
         0,
-        0,
+        place as i32,
     ]
-}
-
-// The 16 words of an item.
-pub fn words_of(a: Item) -> [i32; 16]
-    ensures { λ r. ⌜ r ≡ w.wordsOf a ⌝ }
-{
-    match a {
-        Item::Years(r) => three(2, r.first, r.last, r.step),
-        Item::Months(r) => three(3, r.year, r.first as u16, r.last as u16),
-        Item::Dates(r) => dates_words(r),
-        Item::Weeks(r) => three(5, r.first, r.last, r.step),
-        Item::Weekdays(r) => weekdays_words(r),
-        Item::Holidays(r) => holiday_words(r),
-        Item::Times(r) => span_words(r),
-    }
 }

@@ -105,6 +105,16 @@ fn nothing_read(s: &[u8], c: Cursor) -> Piece
 }
 
 impl Spot {
+    // After an item of this kind, up to c.
+    pub fn after(c: Cursor, kind: Kind) -> Spot
+        ensures { λ r. ⌜ (r .stage ≡ stage.After kind) × (r .at ≡ c .at) ⌝ }
+    {
+        Spot {
+            at: c.at,
+            stage: Stage::After(kind),
+        }
+    }
+
     // Where the rule goes on.
     fn turn(self, s: &[u8]) -> Turn
         ensures { λ r. ⌜ ((m : Manner) → pieces.piece m (self .stage) (now (s .entry)) (self .at) ≡ turned m (now (s .entry)) (self .stage) (self .at) r) ⌝ }

@@ -1,13 +1,13 @@
-// The records of a rule: the words of its head, and of its items.
+// The record of a rule's head.
 ghost use Prim.Native.Nat.{_≤_};
 ghost use mathlib.Core.Path.{_≡_};
+ghost use Rattle.records.specs.Tables.{keptIn};
 ghost use Rattle.sheet.specs.Heads as heads;
-use records::Item;
-use records::words_of;
+use records::keep;
 use rules::Head;
 
 // The words of the head of a rule in a text of at most 4,096 bytes.
-pub fn head_words(h: Head) -> [i32; 16]
+fn head_words(h: Head) -> [i32; 16]
     requires { ⌜ (h .comment .start ≤ 4096) × (h .comment .length ≤ 4096) × (h .items ≤ 4096) × (h .place ≤ 4096) ⌝ }
     ensures { λ r. ⌜ r ≡ heads.headWords h ⌝ }
 {
@@ -32,12 +32,10 @@ pub fn head_words(h: Head) -> [i32; 16]
     ]
 }
 
-// The words of an item at a place of a text of at most 4,096 bytes.
-pub fn item_words(a: Item, place: usize) -> [i32; 16]
-    requires { ⌜ place ≤ 4096 ⌝ }
-    ensures { λ r. ⌜ r ≡ heads.itemRecord (a, place) ⌝ }
+// A rule's head goes into its slot of each table, where that table has the slot.
+pub fn keep_head(words: &mut [i32], bytes: &mut [u8], slot: usize, h: Head)
+    requires { ⌜ (h .comment .start ≤ 4096) × (h .comment .length ≤ 4096) × (h .items ≤ 4096) × (h .place ≤ 4096) ⌝ }
+    ensures { λ _. ⌜ (now (words .exit), now (bytes .exit)) ≡ keptIn (now (words .entry), now (bytes .entry)) slot (heads.headWords h) ⌝ }
 {
-    let mut w = words_of(a);
-    w[15] = place as i32;
-    w
+    keep(words, bytes, slot, head_words(h));
 }

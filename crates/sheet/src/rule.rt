@@ -7,17 +7,15 @@ ghost use Rattle.rules.specs.Rules.{opening};
 ghost use Rattle.sheet.specs.Into.{ruleInto};
 ghost use Rattle.sheet.specs.Seen.{seenRuleInto};
 use crate::RuleRead;
-use crate::heads::head_words;
-use crate::heads::item_words;
+use crate::heads::keep_head;
 use house::Judgement;
 use names::Cursor;
 use names::Manner;
-use records::keep;
+use records::keep_item;
 use rules::Opening;
 use rules::OpeningRead;
 use rules::Piece;
 use rules::Spot;
-use rules::Stage;
 use rules::begin;
 use rules::head_of;
 
@@ -48,22 +46,16 @@ fn fill_pieces(
         match piece {
             Piece::Item(a, p, kind, d) => {
                 n += 1;
-                spot = Spot {
-                    at: d.at,
-                    stage: Stage::After(kind),
-                };
+                spot = Spot::after(d, kind);
                 judged = judged.item(m, a, p);
-                keep(words, bytes, slot + n, item_words(a, p));
+                keep_item(words, bytes, slot + n, a, p);
             }
             Piece::End(t, d) => {
-                let h = head_of(place, separator, t, wide, n);
-                keep(words, bytes, slot, head_words(h));
+                keep_head(words, bytes, slot, head_of(place, separator, t, wide, n));
                 let first = judged.first;
                 return RuleRead::Got(n, first, d);
             }
-            Piece::Refused(k, p) => {
-                return RuleRead::Refused(k, p);
-            }
+            Piece::Refused(k, p) => return RuleRead::Refused(k, p),
         }
     }
 }

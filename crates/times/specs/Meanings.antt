@@ -8,7 +8,7 @@ use Rattle.names.specs.Refusals.{pointInTime, range}
 use Rattle.names.specs.declared.Manner.{Manner}
 use Rattle.names.specs.declared.Manner.the-variants.{First, Second, House}
 use Rattle.records.specs.Items.{signed}
-use Rattle.records.specs.declared.Signed.{Signed}
+use lib.IntN.{ℤ}
 use Rattle.records.specs.declared.Time.{Time}
 use Rattle.records.specs.declared.Time.the-variants as time
 use Rattle.records.specs.declared.Repeat.{Repeat}
@@ -63,7 +63,7 @@ goodSpan (Open t) = goodStart t
 goodSpan (Until a b t) = goodStart a && goodEnd b && goodTail t
 
 -- an event by its number in the table of names: 1 dawn, 2 sunrise, 3 sunset, 4 dusk
-unfoldable pub eventOf : ℕ → Signed → Time
+unfoldable pub eventOf : ℕ → ℤ → Time
 eventOf e m = if eqb e 1 then time.Dawn m else if eqb e 2 then time.Sunrise m else if eqb e 3 then time.Sunset m else time.Dusk m
 
 -- a clock time in minutes, or an event with minutes added or taken off

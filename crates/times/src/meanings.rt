@@ -12,9 +12,9 @@ use names::RANGE;
 use records::Item;
 use records::Meant;
 use records::Repeat;
-use records::Signed;
 use records::Span;
 use records::Time;
+use records::signed;
 
 // Minutes since midnight.
 fn minutes_of(c: Clock) -> u16
@@ -100,7 +100,7 @@ fn good_until(a: RawTime, b: RawTime, t: RawTail) -> bool
 }
 
 // An event by its number, with minutes added or taken off.
-fn event_of(e: u8, minutes: Signed) -> Time
+fn event_of(e: u8, minutes: i16) -> Time
     ensures { λ r. ⌜ r ≡ meanings.eventOf e minutes ⌝ }
 {
     if e == 1 {
@@ -123,7 +123,7 @@ fn time_of(t: RawTime) -> Time
         RawTime::Fixed(c) => Time::Fixed(minutes_of(c)),
         RawTime::Sun(e, negative, c) => {
             let n = minutes_of(c);
-            event_of(e, Signed { negative, n })
+            event_of(e, signed(negative, n))
         }
     }
 }

@@ -1,6 +1,7 @@
 use borrow.Author.Needs.{needs}
 use native.Mathlib.Omega.{arith}
 use Rattle.names.proofs.Facts.{Was, was, Went, went}
+use Rattle.records.proofs.Laws.{half-fits}
 use Rattle.dates.specs.Dates.{backNth}
 use Rattle.dates.proofs.dates.back_nth.Statement.{statement}
 use Rattle.dates.proofs.dates.back_nth.Tie as tie
@@ -30,5 +31,6 @@ back-nth-spec =
     (λ c. search needs)  -- enum-known-number
     (λ c. search needs)  -- enum-told-2
     (λ c. let w = no-number c in rw (w .0 .is, w .1 .is))  -- returns-2
-    (λ c. let w = number (c .before) .1 in omega arith)  -- cast-t8
-    (λ c. let w = number (c .before) in rw (w .0 .is, w .1 .is)))  -- returns-3
+    (λ c. let w = number (c .before) .1 in omega arith)  -- cast-signed
+    (λ c κs. let w = number (c .before) .1 in omega arith)  -- signed-requires
+    (λ c. let w = number (c .before .before) in rw (w .0 .is, w .1 .is, half-fits (c .signed .result) (c .signed .ok), c .signed .ensures)))  -- returns-3

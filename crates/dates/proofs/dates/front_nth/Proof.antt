@@ -1,6 +1,7 @@
 use borrow.Author.Needs.{needs}
 use native.Mathlib.Omega.{arith}
 use Rattle.names.proofs.Facts.{Was, was}
+use Rattle.records.proofs.Laws.{half-fits}
 use Rattle.dates.specs.Dates.{frontNth}
 use Rattle.dates.proofs.dates.front_nth.Statement.{statement}
 use Rattle.dates.proofs.dates.front_nth.Tie as tie
@@ -20,5 +21,6 @@ front-nth-spec =
     (λ c. search needs)  -- enum-known-number
     (λ c. search needs)  -- enum-told
     (λ c. rw (no-number c .is))  -- returns
-    (λ c. let w = number (c .before) in omega arith)  -- cast-t6
-    (λ c. rw (number (c .before) .is)))  -- returns-2
+    (λ c. let w = number (c .before) in omega arith)  -- cast-signed
+    (λ c κs. let w = number (c .before) in omega arith)  -- signed-requires
+    (λ c. rw (number (c .before .before) .is, half-fits (c .signed .result) (c .signed .ok), c .signed .ensures)))  -- returns-2

@@ -1,16 +1,16 @@
 use borrow.Author.Needs.{needs}
 use mathlib.Core.Path.{ap}
 use Rattle.names.proofs.Facts.{Said, said}
-use Rattle.records.specs.declared.Signed.{Signed}
+use lib.IntN.{ℤ}
 use Rattle.dates.specs.Seen.{seenNth}
 use Rattle.dates.specs.Dates.{nth}
 use Rattle.dates.proofs.dates.nth.Statement.{statement}
 use Rattle.dates.proofs.dates.nth.Tie as tie
 
-abbrev no-back : tie.After-enum-told → Said Signed
+abbrev no-back : tie.After-enum-told → Said ℤ
 no-back c = said (c .before .before .back-nth .ensures) (ap seenNth (c .enum-told .given .1))
 
-abbrev back : tie.After-enum-told2 → Said Signed
+abbrev back : tie.After-enum-told2 → Said ℤ
 back c = said (c .before .before .back-nth .ensures) (ap seenNth (c .enum-told2 .given .1))
 
 pub nth-spec : {M : Type 1} → statement M

@@ -2,7 +2,8 @@ use borrow.Author.Needs.{needs}
 use native.Mathlib.Omega.{arith}
 use mathlib.Core.Path.{ap}
 use Rattle.names.proofs.Facts.{Was, was, Went, went, Said, said}
-use Rattle.records.specs.declared.Signed.{Signed}
+use lib.IntN.{ℤ}
+use Rattle.records.proofs.Laws.{half-fits}
 use Rattle.dates.specs.Seen.{seenNth}
 use Rattle.dates.specs.Dates.{weekdayOf}
 use Rattle.dates.proofs.dates.weekday_of.Statement.{statement}
@@ -20,16 +21,16 @@ left c = (name (c .before .before .before .before), went (c .before .before .sig
 abbrev no-left : tie.After-enum-told2 → Was × Went
 no-left c = (name (c .before .before .before .before), went (c .before .before .sign .ensures) (c .enum-told2 .given .1))
 
-abbrev number : tie.After-number → (Was × Went) × Said Signed
+abbrev number : tie.After-number → (Was × Went) × Said ℤ
 number c = (left (c .before .before .before .before), said (c .before .before .nth .ensures) (ap seenNth (c .number .given .1)))
 
-abbrev no-number : tie.After-enum-told3 → (Was × Went) × Said Signed
+abbrev no-number : tie.After-enum-told3 → (Was × Went) × Said ℤ
 no-number c = (left (c .before .before .before .before), said (c .before .before .nth .ensures) (ap seenNth (c .enum-told3 .given .1)))
 
-abbrev right : tie.After-right → ((Was × Went) × Said Signed) × Went
+abbrev right : tie.After-right → ((Was × Went) × Said ℤ) × Went
 right c = (number (c .before .before .before .before), went (c .before .before .sign2 .ensures) (c .right .given .1))
 
-abbrev no-right : tie.After-enum-told4 → ((Was × Went) × Said Signed) × Went
+abbrev no-right : tie.After-enum-told4 → ((Was × Went) × Said ℤ) × Went
 no-right c = (number (c .before .before .before .before), went (c .before .before .sign2 .ensures) (c .enum-told4 .given .1))
 
 pub weekday-of-spec : {M : Type 1} → statement M
@@ -54,4 +55,5 @@ weekday-of-spec =
     (λ c. search needs)  -- enum-told-4
     (λ c. let w = no-right c in rw (w .0 .0 .0 .is, w .0 .0 .1 .is, w .0 .1 .is, w .1 .is))  -- returns-4
     (λ c. let w = right (c .before) .0 .0 .0 in omega arith)  -- cast-t14
-    (λ c. let w = right (c .before) in rw (w .0 .0 .0 .is, w .0 .0 .1 .is, w .0 .1 .is, w .1 .is)))  -- returns-5
+    (λ c. let w = right (c .before) in let n = c .before .before .before .before in
+    rw (w .0 .0 .0 .is, w .0 .0 .1 .is, w .0 .1 .is, w .1 .is, half-fits (n .before .number .given .0 .0) (n .known-told3 .given .0 .1))))  -- returns-5

@@ -1,5 +1,6 @@
 use borrow.Author.Needs.{needs}
 use borrow.Author.Tests.{le-leb, lt-leb}
+use Rattle.records.proofs.Laws.{half-fits}
 use Rattle.days.specs.Holidays.{holidayMeaning}
 use Rattle.days.proofs.holidays.holiday_meaning.Statement.{statement}
 use Rattle.days.proofs.holidays.holiday_meaning.Tie as tie
@@ -9,6 +10,7 @@ unfolding holidayMeaning
 holiday-meaning-spec =
     tie.close
     (tie.spec
-    (λ c. search needs)  -- cast-t6
-    (λ c. rw (le-leb _ 32767 (c .before .if1 .taken)))  -- returns
+    (λ c. search needs)  -- cast-signed
+    (λ c κs. search needs)  -- signed-requires
+    (λ c. rw (le-leb _ 32767 (c .before .before .if1 .taken), half-fits (c .signed .result) (c .signed .ok), c .signed .ensures))  -- returns
     (λ c. rw (lt-leb _ 32767 (c .if1 .left))))  -- returns-2

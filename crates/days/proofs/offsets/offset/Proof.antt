@@ -1,6 +1,7 @@
 use borrow.Author.Needs.{needs}
 use mathlib.Core.Path.{ap}
 use Rattle.names.proofs.Facts.{said}
+use Rattle.records.proofs.Laws.{half-fits}
 use Rattle.days.specs.Offsets.{offset}
 use Rattle.days.specs.Seen.{seenWday}
 use Rattle.days.proofs.offsets.offset.Statement.{statement}
@@ -20,6 +21,7 @@ offset-spec =
       said (c .before .before .before .before .before .before .wday-offset .ensures) (ap seenWday
           (c .before .before .before .before .first .given .1)) .is,
       c .before .before .any-days .ensures,
+      half-fits (c .before .before .before .before .first .given .0 .0) (search needs),
     ))  -- returns
     (λ c. rw (
       said (c .before .before .before .before .before .wday-offset .ensures) (ap seenWday

@@ -2,6 +2,7 @@ use borrow.Author.Needs.{needs}
 use mathlib.Core.Bool.{Bool}
 use mathlib.Core.Path.{ap}
 use native.Mathlib.Omega.{arith}
+use Rattle.records.proofs.Laws.{half-fits}
 use Rattle.names.proofs.Facts.{Was, was, Said, said}
 use Rattle.days.specs.Offsets.{wdayOffset}
 use Rattle.days.specs.Seen.{seenSign}
@@ -28,5 +29,6 @@ wday-offset-spec =
     (λ c. search needs)  -- enum-known-name
     (λ c. search needs)  -- enum-told-2
     (λ c. rw (sign (c .before .before .before .before) .is, was (c .before .before .name .ensures) (c .enum-told2 .given .1) .is))  -- returns-2
-    (λ c. omega (arith, name (c .before) .1))  -- cast-t9
-    (λ c. let w = name (c .before) in rw (w .0 .is, w .1 .is)))  -- returns-3
+    (λ c. omega (arith, name (c .before) .1))  -- cast-signed
+    (λ c κs. omega (arith, name (c .before) .1))  -- signed-requires
+    (λ c. let w = name (c .before .before) in rw (w .0 .is, w .1 .is, half-fits (c .signed .result) (c .signed .ok), c .signed .ensures)))  -- returns-3

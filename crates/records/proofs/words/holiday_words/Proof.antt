@@ -1,7 +1,7 @@
 use borrow.Author.Needs.{needs}
 use native.Mathlib.Omega.{arith}
 use Rattle.records.specs.Words.{wordsOf}
-use Rattle.records.proofs.Laws.{word, word-fits}
+use Rattle.records.proofs.Laws.{word, wide-fits, wide-word}
 use Rattle.records.proofs.words.holiday_words.Statement.{statement}
 use Rattle.records.proofs.words.holiday_words.Tie as tie
 
@@ -11,5 +11,7 @@ holiday-words-spec =
     tie.close
     (tie.spec
     (λ c. search needs)  -- cast-t3
-    (λ c κs. search needs)  -- word-of-requires
-    (λ c. let r = c .before .before .before .args .r in rw (word (r .kind) (omega arith), word-fits (c .word-of .result) (c .word-of .ok), c .word-of .ensures)))  -- returns
+    (λ c. wide-fits (c .before .before .args .r .days) (c .before .struct-told .given .1 .0 .1))  -- cast-t4
+    (λ c. search needs)  -- cast-t16
+    (λ c. let a = c .before .before .args in
+    rw (word (a .r .kind) (omega arith), wide-word (a .r .days) (c .before .struct-told .given .1 .0 .1), word (a .place) (omega (arith, c .before .before .pre)))))  -- returns

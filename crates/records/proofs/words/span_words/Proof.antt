@@ -1,6 +1,7 @@
 use borrow.Author.Needs.{needs}
+use native.Mathlib.Omega.{arith}
 use Rattle.records.specs.Words.{wordsOf}
-use Rattle.records.proofs.Laws.{word-fits}
+use Rattle.records.proofs.Laws.{word, word-fits}
 use Rattle.records.proofs.words.span_words.Statement.{statement}
 use Rattle.records.proofs.words.span_words.Tie as tie
 
@@ -14,7 +15,9 @@ span-words-spec =
     (λ c κs. search needs)  -- repeat-word-requires
     (λ c κs. search needs)  -- bit-requires
     (λ c κs. search needs)  -- bit-requires-2
+    (λ c. search needs)  -- cast-t11
     (λ c.
+    let z = c .before .before .before .before .before .before .before in
     let q = c .before .before .bit2 in
     let o = c .before .before .before .bit in
     let p = c .before .before .before .before .repeat-word in
@@ -27,10 +30,10 @@ span-words-spec =
       word-fits (a .result .minutes) (ga .1 .0 .1),
       word-fits (b .result .kind) (gb .0 .1),
       word-fits (b .result .minutes) (gb .1 .0 .1),
-      word-fits
-          (p .result) (p .ok),
+      word-fits (p .result) (p .ok),
       word-fits (o .result) (o .ok),
       word-fits (q .result) (q .ok),
+      word (z .args .place) (omega (arith, z .pre)),
       ← a .ensures,
       ← b .ensures,
       ← p .ensures,

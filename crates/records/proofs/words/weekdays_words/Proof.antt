@@ -1,7 +1,7 @@
 use borrow.Author.Needs.{needs}
 use native.Mathlib.Omega.{arith}
 use Rattle.records.specs.Words.{wordsOf}
-use Rattle.records.proofs.Laws.{word, word-fits}
+use Rattle.records.proofs.Laws.{word, wide-fits, wide-word}
 use Rattle.records.proofs.words.weekdays_words.Statement.{statement}
 use Rattle.records.proofs.words.weekdays_words.Tie as tie
 
@@ -10,18 +10,18 @@ unfolding wordsOf
 weekdays-words-spec =
     tie.close
     (tie.spec
-    (λ c. search needs)  -- cast-t3
     (λ c. search needs)  -- cast-t4
-    (λ c κs. search needs)  -- word-of-requires
-    (λ c. search needs)  -- cast-t6
+    (λ c. search needs)  -- cast-t5
+    (λ c. wide-fits (c .before .before .before .args .r .days) (search needs))  -- cast-t6
     (λ c. search needs)  -- cast-t7
-    (λ c. let r = c .before .before .before .before .before .before .args .r in let d = c .before .before .word-of in
+    (λ c. search needs)  -- cast-t8
+    (λ c. search needs)  -- cast-t9
+    (λ c. let a = c .before .before .before .before .before .args in
     rw (
-      word (r .first) (omega arith),
-      word (r .last) (omega arith),
-      word-fits (d .result) (d .ok),
-      d .ensures,
-      word (r .starts) (omega arith),
-      word (r .ends)
-          (omega arith),
+      word (a .r .first) (omega arith),
+      word (a .r .last) (omega arith),
+      wide-word (a .r .days) (search needs),
+      word (a .r .starts) (omega arith),
+      word (a .r .ends) (omega arith),
+      word (a .place) (omega (arith, c .before .before .before .before .before .pre)),
     )))  -- returns

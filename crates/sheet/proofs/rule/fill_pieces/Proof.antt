@@ -19,6 +19,7 @@ use Rattle.rules.specs.declared.Tail.{Tail}
 use Rattle.rules.proofs.Cut.{more-local}
 use Rattle.rules.proofs.Chained.{piece-item}
 use Rattle.rules.proofs.Small.{opening-small}
+use Rattle.sheet.specs.Heads.{itemRecord}
 use Rattle.sheet.specs.Into.{ruleInto}
 use Rattle.sheet.proofs.Fills.{Filled, left, headed, left-refused, left-end, Turn, turn-begin, turn-more, turn-whole, head-small, head-placed, item-placed}
 use Rattle.sheet.proofs.rule.fill_pieces.Statement.{statement}
@@ -61,6 +62,7 @@ ended : (c : tie.At-loop Inv-loop μ-loop) {b : Tail} {k : ℕ} → let a = c .b
 ended c e = whole c (left-end _ _ _ _ _ _ _ (c .loop .judged) (c .loop .n) (c .loop .spot .stage) (c .loop .spot .at) e)
 
 pub fill-pieces-spec : {M : Type 1} → statement M
+unfolding itemRecord
 fill-pieces-spec =
     tie.close
     (tie.spec
@@ -71,33 +73,29 @@ fill-pieces-spec =
     (λ c κs. search needs)  -- piece-requires
     (λ c. search needs)  -- enum-known-piece
     (λ c. omega (arith, past-one (more-local _ _) (more-is (c .before)), c .before .before .before .before .loop .inv .low))  -- add-n
+    (λ c κs. search needs)  -- after-requires
     (λ c κs. search needs)  -- item-requires
-    (λ c. let m = c .before .before .before .before in let l = m .before .before .before in let z = l .before .before .before .before .before in
-    omega (arith, past-one (more-local _ _) (more-is m), l .loop .inv .few, z .pre .0, z .pre .1 .0))  -- add-keep
-    (λ c κs. let m = c .before .before .before .before in let l = m .before .before .before in let z = l .before .before .before .before .before in
-    omega (arith, item-placed _ _ _ _ (more-is m), z .pre .0))  -- item-words-requires
-    (λ c κs. search needs)  -- keep-requires
-    (λ c. let m = c .before .before .before .before .before .before .before .before .before in omega (arith, past-one (more-local _ _) (more-is m)))  -- loop-less
-    (λ c. let k = c .before .before .before in let w = k .before in let i = w .before .before .before in let m = w .before .before .before .before .before in let l = m .before .before .before in
-    rw (k .keep .ensures, w .item-words .ensures, i .item .ensures)
+    (λ c. let m = c .before .before .before .before .before in let l = m .before .before .before in let z = l .before .before .before .before .before in
+    omega (arith, past-one (more-local _ _) (more-is m), l .loop .inv .few, z .pre .0, z .pre .1 .0))  -- add-keep-item
+    (λ c κs. let m = c .before .before .before .before .before in omega (arith, item-placed _ _ _ _ (more-is m), m .before .before .before .before .before .before .before .before .pre .0))  -- keep-item-requires
+    (λ c. let a = c .before .before .before .before .before .before .before in omega (arith, past-one (more-local _ _) (more-is (a .before .before)), a .after .ensures .1))  -- loop-less
+    (λ c. let k = c .before .before .before in let i = k .before .before .before in let a = i .before in let m = a .before .before in let l = m .before .before .before in
+    rw (k .keep-item .ensures, i .item .ensures, a .after .ensures .0, a .after .ensures .1)
     (turn-more _ _ _ _ _ _ _ _ _ (l .loop .words, l .loop .bytes) (l .loop .judged) (l .loop .n) (l .loop .spot .stage) (l .loop .spot .at) (l .loop .inv) (more-is m)))  -- loop-again
     (λ c. search needs)  -- enum-known-piece-2
     (λ c κs. search needs)  -- head-of-requires
-    (λ c κs. let h = c .before .before in let p = h .before .before in let l = p .before .before .before in let z = l .before .before .before .before .before in
+    (λ c κs. let p = c .before .before .before .before in let l = p .before .before .before in let z = l .before .before .before .before .before in
     let q = head-small (z .args .m) (z .args .place) (z .args .separator) (z .args .start .comment) (p .piece3 .given .0 .0) (now (z .args .s)) (l .loop .n)
     (l .loop .spot .at) _ (l .loop .spot .stage) (opening-small (now (z .args .s)) (z .args .place) (z .pre .1 .1)) (end p .is) in
-    rw (h .head-of .ensures) (
+    rw (c .head-of .ensures) (
       omega (arith, q .0, z .pre .0),
       omega (arith, q .1, z .pre .0),
       omega (arith, l .loop .inv .few, z .pre .0),
-      omega
-          (arith, head-placed _ _ _ _ _ _ (ended l (end p .is)), z .pre .0),
-    ))  -- head-words-requires
-    (λ c κs. search needs)  -- keep-requires-2
-    (λ c. let w = c .before .before in w .words2 .given ∙ w .before .before .before .before .before .before .before .before .before .before .loop .inv .words)  -- same-length
-    (λ c. let w = c .before in w .bytes2 .given ∙ w .before .before .before .before .before .before .before .before .before .before .before .loop .inv .bytes)  -- same-length-2
-    (λ c. let k = c .before .before .before in let w = k .before in let h = w .before .before .before in let p = h .before .before in let l = p .before .before .before in
-    rw (k .keep2 .ensures, w .head-words .ensures, h .head-of .ensures) (ended l (end p .is)))  -- returns
+      omega (arith, head-placed _ _ _ _ _ _ (ended l (end p .is)), z .pre .0),
+    ))  -- keep-head-requires
+    (λ c. let w = c .before .before in w .words2 .given ∙ w .before .before .before .before .before .before .before .before .before .loop .inv .words)  -- same-length
+    (λ c. let w = c .before in w .bytes2 .given ∙ w .before .before .before .before .before .before .before .before .before .before .loop .inv .bytes)  -- same-length-2
+    (λ c. let k = c .before .before .before in let h = k .before in let p = h .before .before .before .before in rw (k .keep-head .ensures, h .head-of .ensures) (ended (p .before .before .before) (end p .is)))  -- returns
     (λ c. search needs)  -- enum-known-piece-3
     (λ c. c .before .before .before .before .loop .inv .words)  -- same-length-3
     (λ c. c .before .before .before .before .loop .inv .bytes)  -- same-length-4

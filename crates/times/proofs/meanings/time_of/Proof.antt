@@ -1,5 +1,6 @@
 -- A clock time's minutes, or an event by its number.
 use borrow.Author.Needs.{needs}
+use Rattle.records.proofs.Laws.{half-fits}
 use Rattle.times.proofs.meanings.time_of.Statement.{statement}
 use Rattle.times.proofs.meanings.time_of.Tie as tie
 
@@ -11,6 +12,7 @@ time-of-spec =
     (λ c κs. search needs)  -- minutes-of-requires
     (λ c. search needs)  -- enum-known-t-2
     (λ c κs. search needs)  -- minutes-of-requires-2
+    (λ c κs. search needs)  -- signed-requires
     (λ c κs. search needs)  -- event-of-requires
     (λ c. rw (c .before .before .t .given .1, c .minutes-of .ensures))  -- returns
-    (λ c. rw (c .before .before .before .t2 .given .1, ← c .before .minutes-of2 .ensures) (c .event-of .ensures)))  -- returns-2
+    (λ c. rw (c .before .before .before .before .t2 .given .1, ← c .before .before .minutes-of2 .ensures, ← c .before .signed .ensures) (rw (half-fits (c .before .signed .result) (c .before .signed .ok)) at (c .event-of .ensures))))  -- returns-2
