@@ -17,7 +17,7 @@ pub fn first_of(a: Break, b: Break) -> Break
 {
     match a {
         Break::Nowhere => b,
-        Break::At(_, _) => a,
+        Break::At(k, p) => Break::At(k, p),
     }
 }
 
