@@ -25,10 +25,13 @@ use Rattle.house.specs.declared.Break.{Break}
 use Rattle.house.specs.declared.Break.the-variants.{Nowhere, At}
 use Rattle.house.proofs.Laws.{first-none, first-assoc, judged-none, judged-first}
 use Rattle.sheet.specs.declared.RuleRead.{RuleRead}
+use Rattle.names.specs.declared.Cursor.{Cursor}
 use Rattle.sheet.specs.declared.RuleRead.the-variants as read
+use Rattle.sheet.specs.declared.Parted.{Parted}
+use Rattle.sheet.specs.declared.Parted.the-variants as parting
 use Rattle.sheet.specs.Texts.{afterRule, parted, moreRules, noMore, rules, unbroken, judgedRules, ruleRecords, records}
 use Rattle.sheet.specs.Into.{ruleInto, rulesInto}
-use Rattle.sheet.specs.Seen.{seenRule, seenRuleInto}
+use Rattle.sheet.specs.Seen.{seenRule, seenRuleInto, seenParted}
 use Rattle.sheet.proofs.Moves.{takes, must-next, rules-are}
 use Rattle.names.proofs.Upto.{Upto, upto-then}
 use Rattle.sheet.proofs.Takes.{rule-takes}
@@ -115,6 +118,19 @@ module _ (m : Manner) (t t′ : Tables) (slot separator : ℕ) (s : List ℕ) (i
       go none (read.Refused l p) f = cc
       go (refused l p) (read.Got items broken c) f = cc
       go (refused l p) (read.Refused o q) f = cc
+
+  -- the same where the rule was read, up to c, and what parts it from the next is read as x
+  pub step-parted : (known : Known) {j : ℕ} (c : Cursor) (x : Parted) → blanks s i ≡ got tt j → ruleInto m t slot separator s j ≡ got (known, t′) (c .at) →
+      afterRule tt s (c .at) ≡ seenParted x →
+      map (both (ruleKept m t slot)) (moreRules m (Another separator)) s i ≡ follow s i (seenParted x) (λ y. pure (both {B = Known × Tables} (λ _. (known, t′)) y)) nothing
+  step-parted known c x e f g =
+      step (read.Got (known .0) (known .1) c) e f
+      (after-first (λ (u : Unit {0}). known) tt s (c .at) ∙ ap (λ (r : Read (Unit {0} × Next)). follow s (c .at) r (λ y. pure (both (λ _. known) y)) nothing) g) ∙ go x
+    where
+      go : (x : Parted) → follow s i (follow s (c .at) (seenParted x) (λ y. pure (both (λ _. known) y)) nothing) (λ y. pure (both {B = Known × Tables} (λ k. (k, t′)) y)) nothing
+          ≡ follow s i (seenParted x) (λ y. pure (both {B = Known × Tables} (λ _. (known, t′)) y)) nothing
+      go (parting.Got n k) = refl
+      go (parting.Refused k p) = refl
 
 -- a rule of so many items and with this first break is read at i, n follows it, up to the place k, and its records are kept from a slot on
 pub record Turned (m : Manner) (t t′ : Tables) (slot separator : ℕ) (s : List ℕ) (i items : ℕ) (broken : Break) (n : Next) (k : ℕ) : Type 0 where

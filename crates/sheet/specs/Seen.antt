@@ -23,9 +23,9 @@ abbrev pub seenRule : RuleRead → Read (ℕ × Break)
 seenRule (rule.Got items first c) = got (items, first) (c .at)
 seenRule (rule.Refused k p) = refused k p
 
--- the same, and what parts it from the next
-abbrev pub seenParted : Parted → Read ((ℕ × Break) × Next)
-seenParted (parted.Got items first next c) = got ((items, first), next) (c .at)
+-- what parts a rule from the next, whatever the rule is
+abbrev pub seenParted : Parted → Read (Unit {0} × Next)
+seenParted (parted.Got next c) = got (tt, next) (c .at)
 seenParted (parted.Refused k p) = refused k p
 
 -- the same of a rule, and the tables afterwards

@@ -67,9 +67,9 @@ pub enum RuleRead {
     Refused(u8, usize),
 }
 
-// The same of a rule and what parts it from the next: also what follows.
+// What parts a rule from the next: what follows, and the place after it; or a refusal with its number and place.
 pub enum Parted {
-    Got(usize, Break, Next, Cursor),
+    Got(Next, Cursor),
     Refused(u8, usize),
 }
 

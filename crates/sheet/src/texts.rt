@@ -2,10 +2,9 @@
 ghost use Prim.Native.Nat.{_≤_};
 ghost use mathlib.Core.Path.{_≡_};
 ghost use lib.ListN.{length};
-ghost use Rattle.names.specs.Read.{follow, nothing};
 ghost use Rattle.sheet.specs.Texts.{afterRule};
 ghost use Rattle.sheet.specs.Into.{rulesInto};
-ghost use Rattle.sheet.specs.Seen.{seenRule, seenParted, seenRulesInto, ComesTo};
+ghost use Rattle.sheet.specs.Seen.{seenParted, seenRulesInto, ComesTo};
 use crate::Counted;
 use crate::Parted;
 use crate::RuleRead;
@@ -19,23 +18,18 @@ use rules::Next;
 use rules::NextRead;
 use rules::next_rule;
 
-// The blanks after a rule that was read, and what parts it from the next.
-pub fn parted(s: &[u8], r: RuleRead) -> Parted
-    ensures { λ x. ⌜ follow (now (s .entry)) 0 (seenRule r) afterRule nothing ≡ seenParted x ⌝ }
+// The blanks after a rule, and what parts it from the next.
+pub fn parted(s: &[u8], c: Cursor) -> Parted
+    ensures { λ r. ⌜ afterRule tt (now (s .entry)) (c .at) ≡ seenParted r ⌝ }
 {
-    match r {
-        RuleRead::Got(items, first, d) => {
-            let e = d.blanks(s);
-            let after = next_rule(s, e);
-            match after {
-                NextRead::Got(n, f) => Parted::Got(items, first, n, f),
-                NextRead::Missing => {
-                    let lack = missing(s, e);
-                    Parted::Refused(lack.number, lack.place)
-                }
-            }
+    let d = c.blanks(s);
+    let next = next_rule(s, d);
+    match next {
+        NextRead::Got(n, e) => Parted::Got(n, e),
+        NextRead::Missing => {
+            let lack = missing(s, d);
+            Parted::Refused(lack.number, lack.place)
         }
-        RuleRead::Refused(k, p) => Parted::Refused(k, p),
     }
 }
 
@@ -60,20 +54,24 @@ pub fn fill_rules(s: &[u8], m: Manner, p: usize, words: &mut [i32], bytes: &mut 
     let mut broken = Break::Nowhere;
     loop {
         let c = Cursor { at }.blanks(s);
-        let r = parted(s, fill_rule(s, m, c, separator, words, bytes, slot));
+        let r = fill_rule(s, m, c, separator, words, bytes, slot);
         match r {
-            Parted::Got(items, first, after, d) => {
-                slot += items + 1;
-                broken = first_of(broken, first);
-                let Next::Another(k) = after else {
-                    return counted(slot, broken, d);
-                };
-                separator = k;
-                at = d.at;
+            RuleRead::Got(items, first, d) => {
+                let after = parted(s, d);
+                match after {
+                    Parted::Got(next, e) => {
+                        slot += items + 1;
+                        broken = first_of(broken, first);
+                        let Next::Another(k) = next else {
+                            return counted(slot, broken, e);
+                        };
+                        separator = k;
+                        at = e.at;
+                    }
+                    Parted::Refused(k, q) => return Counted::Refused(k, q),
+                }
             }
-            Parted::Refused(k, q) => {
-                return Counted::Refused(k, q);
-            }
+            RuleRead::Refused(k, q) => return Counted::Refused(k, q),
         }
     }
 }
