@@ -21,7 +21,7 @@ use Rattle.sheet.specs.declared.PartAnswer.{PartAnswer}
 use Rattle.sheet.specs.Editions.{editionOf, inEdition, sheetReadingIn, sheetReadingBytesIn, partReadingIn, partReadingBytesIn}
 use Rattle.sheet.specs.declared.Edition.{Edition}
 use Rattle.sheet.specs.declared.Edition.the-variants.{Known, Unknown}
-use Rattle.entries.specs.Calls.{sheetCallBy, sheetCallIn, partCallBy, partCallIn}
+use Rattle.c_calls.specs.Calls.{sheetCallBy, sheetCallIn, partCallBy, partCallIn}
 use Rattle.demands.specs.Untouched.{Untouched}
 use Rattle.demands.proofs.Numbers.{either}
 

@@ -2,7 +2,7 @@
 ghost use Prim.Native.Nat.{_≤_};
 ghost use mathlib.Core.List.{[], _∷_};
 ghost use mathlib.Core.Path.{_≡_};
-ghost use Rattle.entries.specs.Calls.{flag, sheetNumbers, partNumbers, sheetCall, sheetCallIn, houseCall, partCall, partCallIn, housePartCall, noteCall, feedCall};
+ghost use Rattle.c_calls.specs.Calls.{flag, sheetNumbers, partNumbers, sheetCall, sheetCallIn, houseCall, partCall, partCallIn, housePartCall, noteCall, feedCall};
 use feed::read_feed_bytes;
 use sheet::Answer;
 use sheet::PartAnswer;
