@@ -37,8 +37,9 @@ use Rattle.items.specs.Musts.{atBrokenQuote, missingAt, missing, must}
 use Rattle.items.specs.Kinds.{afterBlank, at, weeks, itemOf, itemIn}
 use Rattle.items.specs.declared.Kind.{Kind}
 use Rattle.items.specs.declared.Kind.the-variants.{Years, MonthDays, Weeks, WeekNumbers, Weekdays, LastWeekdays, Holidays, LastHolidays, Times}
-use Rattle.utf8.specs.Utf8.{octet, utf8-tail, utf8-2, utf8-3, utf8-4, longer, twoMore, threeMore}
+use Rattle.utf8.specs.Utf8.{octet, longer}
 use Rattle.utf8.specs.Letters.{isInner, isPlain, plain, letter, letters}
+use Rattle.utf8.proofs.Made.{longer-has}
 use Rattle.rules.specs.Comments.{noComment, closed, illFormed, comment, commentApart}
 use Rattle.rules.specs.Modifiers.{withComment, modifier}
 use Rattle.rules.specs.Rows.{small, first, listed, following, isWide}
@@ -223,38 +224,8 @@ octet-tells : (lo hi : ℕ) → Tells (octet lo hi)
 unfolding octet
 octet-tells lo hi = map-tells (λ _. tt) (one-tells _)
 
-tail-tells : Tells utf8-tail
-unfolding utf8-tail
-tail-tells = octet-tells 0x80 0xBF
-
-twoMore-tells : (lo hi : ℕ) → Tells (twoMore lo hi)
-twoMore-tells lo hi = then-tells (octet-tells lo hi) (λ _. tail-tells)
-
-threeMore-tells : (lo hi : ℕ) → Tells (threeMore lo hi)
-threeMore-tells lo hi = then-tells (octet-tells lo hi) (λ _. then-tells tail-tells (λ _. tail-tells))
-
-utf8-2-tells : Tells utf8-2
-unfolding utf8-2
-utf8-2-tells = then-tells (octet-tells 0xC2 0xDF) (λ _. tail-tells)
-
-utf8-3-tells : Tells utf8-3
-unfolding utf8-3 utf8-tail
-utf8-3-tells =
-    or-tells (then-tells (octet-tells 0xE0 0xE0) (λ _. twoMore-tells 0xA0 0xBF))
-    (or-tells (then-tells (octet-tells 0xE1 0xEC) (λ _. twoMore-tells 0x80 0xBF))
-    (or-tells (then-tells (octet-tells 0xED 0xED) (λ _. twoMore-tells 0x80 0x9F))
-    (then-tells (octet-tells 0xEE 0xEF) (λ _. twoMore-tells 0x80 0xBF))))
-
-utf8-4-tells : Tells utf8-4
-unfolding utf8-4 utf8-tail
-utf8-4-tells =
-    or-tells (then-tells (octet-tells 0xF0 0xF0) (λ _. threeMore-tells 0x90 0xBF))
-    (or-tells (then-tells (octet-tells 0xF1 0xF3) (λ _. threeMore-tells 0x80 0xBF))
-    (then-tells (octet-tells 0xF4 0xF4) (λ _. threeMore-tells 0x80 0x8F)))
-
 longer-tells : Tells longer
-unfolding longer
-longer-tells = or-tells utf8-2-tells (or-tells utf8-3-tells utf8-4-tells)
+longer-tells = longer-has {P = Tells} (record { byte = λ lo hi h. octet-tells lo hi; both = λ M N. then-tells M (λ _. N); either = λ M N. or-tells M N })
 
 letters-tells : Tells letters
 unfolding letters letter plain
