@@ -1,10 +1,8 @@
 use borrow.Author.Needs.{needs}
-use Prim.Native.Nat.{_*_, _≤_}
-use mathlib.Core.List.{_++_}
-use mathlib.Core.Path.{_≡_, refl, ap, _∙_}
+use Prim.Native.Nat.{_≤_}
+use mathlib.Core.Path.{refl}
 use native.Mathlib.Omega.{arith}
 use denote.Ref.{now}
-use lib.ListN.{length}
 use Rattle.prints.specs.Lines.{line, lines}
 use Rattle.prints.proofs.Writing.{then}
 use Rattle.outputs.specs.Outputs.{numbersOf, outputOf, longest}
