@@ -30,7 +30,7 @@ next c = went (c .before .before .longer .ensures) (c .next .given .1)
 abbrev missing : tie.After-enum-told Inv-loop μ-loop → Went
 missing c = went (c .before .before .longer .ensures) (c .enum-told .given .1)
 
--- ---- where the loop stands: at its test, and where no byte is a character by itself
+-- ---- where the loop stands: at its test, and where the byte there is no character by itself
 
 abbrev Loop : Type 0
 Loop = tie.At-loop Inv-loop μ-loop
