@@ -1,7 +1,7 @@
-# To be sourced: the static library of the C entries, and how a C program over it is built; "${emulator[@]}" runs it.
-#   ARCHIVE   the library (default: target/staticlib/libentries.a, proved and made if it is missing)
+# To be sourced: the static library of the C calls, and how a C program over it is built; "${emulator[@]}" runs it.
+#   ARCHIVE   the library (default: target/staticlib/libc_calls.a, proved and made if it is missing)
 . "$(dirname "${BASH_SOURCE[0]}")/x86.sh"
-archive=${ARCHIVE:-$root/target/staticlib/libentries.a}
+archive=${ARCHIVE:-$root/target/staticlib/libc_calls.a}
 x86_tools
 if [ "$(uname -m)" = x86_64 ]; then
     need gcc gcc libc6-dev
@@ -9,7 +9,7 @@ if [ "$(uname -m)" = x86_64 ]; then
 else
     compiler="x86_64-linux-gnu-gcc -static"
 fi
-[ -f "$archive" ] || (cd "$root" && rt staticlib entries)
+[ -f "$archive" ] || (cd "$root" && rt staticlib c_calls)
 
 # build PROGRAM FILE.c [WORDS...]
 build() {

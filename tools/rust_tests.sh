@@ -1,7 +1,7 @@
 #!/usr/bin/env bash
 # The crate rust/lorukinde over the static library: its tests, the numbers and places of its list of slips by the second reader, and the program on one sheet.
 # Installs what is missing and makes the archive if it is not there (rust.sh).
-#   LORUKINDE_LIB_DIR   the folder of libentries.a (default: target/staticlib)
+#   LORUKINDE_LIB_DIR   the folder of libc_calls.a (default: target/staticlib)
 set -euo pipefail
 . "$(dirname "$0")/rust.sh"
 tests=()

@@ -1,4 +1,4 @@
-//! Links the static library `libentries.a`: from the folder `LORUKINDE_LIB_DIR`, or from where `rt staticlib` leaves it.
+//! Links the static library `libc_calls.a`: from the folder `LORUKINDE_LIB_DIR`, or from where `rt staticlib` leaves it.
 use std::path::PathBuf;
 use std::{env, process};
 
@@ -14,13 +14,13 @@ fn main() {
         Some(folder) => PathBuf::from(folder),
         None => PathBuf::from(env::var_os("CARGO_MANIFEST_DIR").unwrap_or_default()).join("../../target/staticlib"),
     };
-    let archive = folder.join("libentries.a");
+    let archive = folder.join("libc_calls.a");
     println!("cargo:rerun-if-changed={}", archive.display());
     if !archive.is_file() {
-        stop(&format!("{} is not there: run rt staticlib entries first", archive.display()));
+        stop(&format!("{} is not there: run rt staticlib c_calls first", archive.display()));
     }
     println!("cargo:rustc-link-search=native={}", folder.display());
-    println!("cargo:rustc-link-lib=static=entries");
+    println!("cargo:rustc-link-lib=static=c_calls");
 }
 
 fn stop(message: &str) -> ! {

@@ -1,4 +1,4 @@
-/* Faults planted round the entries, to show that the fuzzer finds them: FAULT=1 to 103 in the environment, 0 for none. Linked with
+/* Faults planted round the calls, to show that the fuzzer finds them: FAULT=1 to 103 in the environment, 0 for none. Linked with
  * -Wl,--wrap for each call (run.sh), so the library itself stays as it is. */
 #include <stdlib.h>
 #include <string.h>

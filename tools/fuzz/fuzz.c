@@ -1,4 +1,4 @@
-/* fuzz SEED CALLS end|begin: drives the C entries with random sheets, tables and places for at least CALLS calls, and stops at the first wrong answer.
+/* fuzz SEED CALLS end|begin: drives the C calls with random sheets, tables and places for at least CALLS calls, and stops at the first wrong answer.
  *
  * Every lent buffer (sheet, table, answers, each number) ends exactly at an unreadable page (end) or begins exactly after one (begin), so a step outside it on
  * that side is a fault; on the other side the bytes next to it are compared. The sheet, or feed, is lent through a read-only view. Before each call the table has

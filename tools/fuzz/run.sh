@@ -1,5 +1,5 @@
 #!/usr/bin/env bash
-# Fuzzes the C entries: CALLS calls with each lent buffer's end at an unreadable page, as many with its beginning there; then every fault planted in
+# Fuzzes the C calls: CALLS calls with each lent buffer's end at an unreadable page, as many with its beginning there; then every fault planted in
 # faults.c has to be found.
 #   run.sh [SEED [CALLS]]    default: 1 5000000
 set -euo pipefail

@@ -1,4 +1,4 @@
-/* bench FILE ROUNDS [READING]: reads each sheet of a file, one a line, ROUNDS times through the C entry with a table that holds every sheet. READING is
+/* bench FILE ROUNDS [READING]: reads each sheet of a file, one a line, ROUNDS times through a C call with a table that holds every sheet. READING is
  * `parts`, part by part; `edition-2`; `house`; or `feed`, the whole file at once. The last three are not there with PLAIN_C, for a reader that has none of
  * them. Writes how many readings were accepted, of a feed how many lines it has. The work between two calls is a few instructions, which are counted too. */
 #include <stdio.h>

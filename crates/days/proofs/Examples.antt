@@ -30,7 +30,8 @@ weekdays first last d starts ends i = got (Weekdays (record { first = first; las
 -- a descending pair sets none, and if no flag of the ten is set, all ten are; a number out of range is refused though it would set none; the longest shape that is complete is taken
 weekdays-right :
     map (λ s. weekdayItem First (bytes s) 0)
-    ("Fr[3-1]" ∷ "Fr[3-1,2]" ∷ "Fr[6-1]" ∷ "Mo[1] +1 day" ∷ "Mo[6" ∷ "Sa-Mo" ∷ "Mo[-1,2-3]" ∷ "Mo[1] +32768 days" ∷ "Mo[5] -32767 days" ∷ "Mo +1 day" ∷ "Mo-Fr[1]" ∷ "Mo[-2-1]" ∷ "Mo[01]" ∷ "Mo[1] +1 Days" ∷ "PH" ∷ [])
+    ("Fr[3-1]" ∷ "Fr[3-1,2]" ∷ "Fr[6-1]" ∷ "Mo[1] +1 day" ∷ "Mo[6" ∷ "Sa-Mo" ∷ "Mo[-1,2-3]" ∷ "Mo[1] +32768 days"
+    ∷ "Mo[5] -32767 days" ∷ "Mo +1 day" ∷ "Mo-Fr[1]" ∷ "Mo[-2-1]" ∷ "Mo[01]" ∷ "Mo[1] +1 Days" ∷ "PH" ∷ [])
     ≡ weekdays 5 5 (days 0) 31 31 7 ∷ weekdays 5 5 (days 0) 2 0 9 ∷ refused 4 0 ∷ weekdays 1 1 (days 1) 1 0 12 ∷ weekdays 1 1 (days 0) 31 31 2 ∷ weekdays 6 1 (days 0) 31 31 5
     ∷ weekdays 1 1 (days 0) 6 1 10 ∷ refused 4 0 ∷ weekdays 1 1 (signed true 32767) 16 0 17 ∷ weekdays 1 1 (days 0) 31 31 2 ∷ weekdays 1 5
     (days 0) 31 31 5 ∷ weekdays 1 1 (days 0) 31 31 2 ∷ weekdays 1 1 (days 0) 31 31 2

@@ -14,7 +14,7 @@ use Rattle.sheet.specs.Parts.{begins, partEnd}
 use Rattle.sheet.specs.PartReadings.{withNext, partBy, partReadingBy, partReadingBytesBy}
 use Rattle.sheet.proofs.PartLaws.{begins-earlier, end-earlier}
 use Rattle.sheet.specs.declared.PartAnswer.{PartAnswer}
-use Rattle.entries.specs.Calls.{partNumbers, partCallBy}
+use Rattle.c_calls.specs.Calls.{partNumbers, partCallBy}
 use Rattle.demands.specs.Before.{Damaged, SameBeginnings, BeforeDamage, BeforeCalls}
 
 module _ (u b c : List ℕ) (d : Damaged u b c) where

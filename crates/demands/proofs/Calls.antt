@@ -13,7 +13,7 @@ use Rattle.sheet.specs.Parts.{begins, places}
 use Rattle.sheet.specs.Sheets.{writtenAs, sheetReadingBy, wordsIn, sheetReadingBytesBy}
 use Rattle.sheet.specs.PartReadings.{partAnswerOf, partBy, partReadingBy, partReadingBytesBy}
 use Rattle.sheet.specs.declared.PartAnswer.{PartAnswer}
-use Rattle.entries.specs.Calls.{flag, sheetCallBy, partCallBy}
+use Rattle.c_calls.specs.Calls.{flag, sheetCallBy, partCallBy}
 use Rattle.demands.specs.Alone.{partAlone}
 use Rattle.demands.specs.ByC.{sheetByC, partByC}
 use Rattle.demands.specs.Exchanged.{Exchanged, UnchangedCall}

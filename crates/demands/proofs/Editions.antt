@@ -21,7 +21,7 @@ use Rattle.sheet.specs.Editions.{editionOf, sheetReadingIn, sheetReadingBytesIn
 use Rattle.sheet.specs.declared.Answer.{Answer}
 use Rattle.sheet.specs.declared.PartAnswer.{PartAnswer}
 use Rattle.sheet.proofs.Moves.{rules-ended}
-use Rattle.entries.specs.Calls.{sheetNumbers, partNumbers, sheetCall, sheetCallBy, sheetCallIn, partCall, partCallBy, partCallIn}
+use Rattle.c_calls.specs.Calls.{sheetNumbers, partNumbers, sheetCall, sheetCallBy, sheetCallIn, partCall, partCallBy, partCallIn}
 use Rattle.demands.specs.Editions.{SheetKept, PartKept, SheetCalls, PartCalls}
 use Rattle.demands.proofs.Judged.{first-rules, second-rules}
 use Rattle.demands.proofs.Numbers.{next-same}

@@ -6,7 +6,8 @@ use mathlib.Core.Logic.{_≢_, _⊎_, inl, inr}
 use mathlib.Core.Path.{_≡_, sym, ap, _∙_, subst}
 use native.Mathlib.Omega.{arith}
 use native.Mathlib.Decide.{decLt}
-use lib.ListN.{length, length-append}
+use lib.Dec.{ltb}
+use lib.ListN.{length, length-append, take}
 use lib.Seq.{take-append-le, take-append-seam, drop-append-seam, getD-append-seam}
 use borrow.Author.Tests.{le-ltb, lt-ltb}
 use Rattle.names.specs.declared.Manner.{Manner}
@@ -72,8 +73,8 @@ itself {a} {x} {y} {b} z l = (
     ends (rest t o) = part-cut y t (z .quoted) (z .pairs)
 
 -- a place at which another part begins stands before a part or after its end
-afterBlank : (s : List ℕ) (m p : ℕ) → begins s m ≡ true → begins s p ≡ true → p ≢ m → (p < m) ⊎ (partEnd s m < p)
-afterBlank s m p c k d = go (decLt p m) (decLt (partEnd s m) p)
+before-or-after : (s : List ℕ) (m p : ℕ) → begins s m ≡ true → begins s p ≡ true → p ≢ m → (p < m) ⊎ (partEnd s m < p)
+before-or-after s m p c k d = go (decLt p m) (decLt (partEnd s m) p)
   where
     go : Dec (p < m) → Dec (partEnd s m < p) → (p < m) ⊎ (partEnd s m < p)
     go (yes h) l = inl h
@@ -135,20 +136,22 @@ module _ {a x y b : List ℕ} (z : Exchanged a x y b) where
   pub exchange-before : (m : Manner) (p n : ℕ) → p < length a → begins (a ++ (x ++ b)) p ≡ true → (begins (a ++ (y ++ b)) p ≡ true) × (partBy m (a ++ (y ++ b)) p n ≡ partBy m (a ++ (x ++ b)) p n)
   unfolding partBy withNext
   exchange-before m p n h k =
-      let e = partEnd (a ++ (x ++ b)) p in
-      let l : e < length a = ends-before p h k in
-      let c : begins (a ++ (y ++ b)) p ≡ true = begins-earlier a (y ++ b) p (omega arith) ∙ sym (begins-earlier a (x ++ b) p (omega arith)) ∙ k in (
-        c,
+      let end = partEnd (a ++ (x ++ b)) p in
+      let ends : end < length a = ends-before p h k in
+      let begun : begins (a ++ (y ++ b)) p ≡ true = begins-earlier a (y ++ b) p (omega arith) ∙ sym (begins-earlier a (x ++ b) p (omega arith)) ∙ k in
+      let up-to : (t : List ℕ) → take end (a ++ t) ≡ take end a = λ t. take-append-le end a t (omega arith) in
+      let goes-on : (t : List ℕ) → ltb end (length (a ++ t)) ≡ true = λ t. lt-ltb end (length (a ++ t)) (simp length-append (omega arith)) in (
+        begun,
         rw (
           le-ltb 4096 (length (a ++ (y ++ b))) (z .new-fits),
           le-ltb 4096 (length (a ++ (x ++ b))) (z .old-fits),
-          c,
+          begun,
           k,
-          end-earlier a (x ++ b) (y ++ b) p l,
-          take-append-le e a (x ++ b) (omega arith),
-          take-append-le e a (y ++ b) (omega arith),
-          lt-ltb e (length (a ++ (x ++ b))) (simp length-append (omega arith)),
-          lt-ltb e (length (a ++ (y ++ b))) (simp length-append (omega arith)),
+          end-earlier a (x ++ b) (y ++ b) p ends,
+          up-to (x ++ b),
+          up-to (y ++ b),
+          goes-on (x ++ b),
+          goes-on (y ++ b),
         ),
       )
 
@@ -168,7 +171,7 @@ module _ {a x y b : List ℕ} (z : Exchanged a x y b) where
 
   -- the exchange: each other part of the first sheet is left
   pub exchange : (m : Manner) (p n : ℕ) → begins (a ++ (x ++ b)) p ≡ true → p ≢ length a → Unchanged m a x y b n p
-  exchange m p n k d = go (afterBlank (a ++ (x ++ b)) (length a) p (z .part-begins) k d)
+  exchange m p n k d = go (before-or-after (a ++ (x ++ b)) (length a) p (z .part-begins) k d)
     where
       go : (p < length a) ⊎ (partEnd (a ++ (x ++ b)) (length a) < p) → Unchanged m a x y b n p
       go (inl h) = let w = exchange-before m p n h k in before h (w .0) (w .1)
@@ -181,7 +184,7 @@ module _ {a x y b : List ℕ} (z : Exchanged a x y b) where
 
   -- and each other part of the second was one of the first
   pub exchange-others : (p : ℕ) → begins (a ++ (y ++ b)) p ≡ true → p ≢ length a → Was a x y b p
-  exchange-others p k d = go (afterBlank (a ++ (y ++ b)) (length a) p (exchange-itself .0) k d)
+  exchange-others p k d = go (before-or-after (a ++ (y ++ b)) (length a) p (exchange-itself .0) k d)
     where
       go : (p < length a) ⊎ (partEnd (a ++ (y ++ b)) (length a) < p) → Was a x y b p
       go (inl h) = before h (begins-earlier a (x ++ b) p (omega arith) ∙ sym (begins-earlier a (y ++ b) p (omega arith)) ∙ k)

@@ -14,7 +14,7 @@ use Rattle.sheet.proofs.Readings.{sheet-held}
 use Rattle.feed.specs.Lines.{lines}
 use Rattle.feed.specs.Feeds.{Reading, readings, recordsOf, feedAnswerOf, allOf, FeedReading, fewPlaces, feedOf, writtenFeed, feedReading, feedReadingBytes}
 use Rattle.feed.specs.declared.FeedAnswer.{FeedAnswer}
-use Rattle.entries.specs.Calls.{feedCall}
+use Rattle.c_calls.specs.Calls.{feedCall}
 use Rattle.demands.specs.Feeds.{roomFor, lineRead, added, UntouchedFeed}
 use Rattle.demands.proofs.Numbers.{either}
 

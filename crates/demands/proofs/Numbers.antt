@@ -11,7 +11,7 @@ use lib.ListN.{length, take}
 use Rattle.names.specs.declared.Manner.{Manner}
 use Rattle.names.specs.Tests.{if_then_else_}
 use Rattle.names.specs.Read.{got, none, refused}
-use Rattle.names.specs.Refusals.{houseForm, houseOrder, greatest}
+use Rattle.names.specs.Refusals.{tooLong, noPart, houseForm, houseOrder, greatest}
 use Rattle.names.specs.declared.Manner.the-variants.{First, Second, House}
 use Rattle.sheet.specs.Texts.{judgedRules, records}
 use Rattle.sheet.specs.Sheets.{refusal, judgedText, textOf, sheetBy}
@@ -79,10 +79,17 @@ next-same s e a = go (ltb e (length s))
     go true = refl
     go false = refl
 
+-- a part's answer by its cases: the sheet is too long, no part begins there, or the part's text is read
+pub part-cases : (P : PartAnswer × List (List ℤ) → Type 0) (m : Manner) (s : List ℕ) (p n : ℕ) → P (partRefusal tooLong) → P (partRefusal noPart) →
+    P (partTo m s p n (partEnd s p)) → P (partBy m s p n)
+unfolding partBy
+part-cases P m s p n long no-part read =
+    let begun = either P (not (begins s p)) (partRefusal noPart) (partTo m s p n (partEnd s p)) no-part read in
+    either P (ltb 4096 (length s)) (partRefusal tooLong) _ long begun
+
 -- of a part
 pub part-number : (m : Manner) (s : List ℕ) (p n : ℕ) → Given m (partBy m s p n .0 .number)
-unfolding partBy
 part-number m s p n =
     let e = partEnd s p in
-    either (KnownPart m) (ltb 4096 (length s)) (partRefusal 1) (if not (begins s p) then partRefusal 2 else partTo m s p n e) (given m (omega arith))
-    (either (KnownPart m) (not (begins s p)) (partRefusal 2) (partTo m s p n e) (given m (omega arith)) (next-number m s e (textOf m (take e s) p n .0) (text-number m (take e s) p n)))
+    let read : Given m (partTo m s p n e .0 .number) = next-number m s e (textOf m (take e s) p n .0) (text-number m (take e s) p n) in
+    part-cases (KnownPart m) m s p n (given m (omega arith)) (given m (omega arith)) read

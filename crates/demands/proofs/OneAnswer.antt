@@ -14,7 +14,7 @@ use Rattle.sheet.specs.declared.NotePart.{NotePart}
 use Rattle.sheet.specs.Editions.{sheetReadingIn, sheetReadingBytesIn, partReadingIn, partReadingBytesIn}
 use Rattle.feed.specs.Feeds.{feedReading, feedReadingBytes}
 use Rattle.feed.specs.declared.FeedAnswer.{FeedAnswer}
-use Rattle.entries.specs.Calls.{sheetCallBy, sheetCallIn, partCallBy, partCallIn, noteCall, feedCall}
+use Rattle.c_calls.specs.Calls.{sheetCallBy, sheetCallIn, partCallBy, partCallIn, noteCall, feedCall}
 
 -- what is the same as a third thing is the same
 one : {A : Type 0} {x y z : A} → x ≡ z → y ≡ z → x ≡ y

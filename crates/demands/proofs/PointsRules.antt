@@ -37,8 +37,9 @@ use Rattle.items.specs.Musts.{atBrokenQuote, missingAt, missing, must}
 use Rattle.items.specs.Kinds.{afterBlank, at, weeks, itemOf, itemIn}
 use Rattle.items.specs.declared.Kind.{Kind}
 use Rattle.items.specs.declared.Kind.the-variants.{Years, MonthDays, Weeks, WeekNumbers, Weekdays, LastWeekdays, Holidays, LastHolidays, Times}
-use Rattle.utf8.specs.Utf8.{octet, utf8-tail, utf8-2, utf8-3, utf8-4, longer}
+use Rattle.utf8.specs.Utf8.{octet, longer}
 use Rattle.utf8.specs.Letters.{isInner, isPlain, plain, letter, letters}
+use Rattle.utf8.proofs.Made.{longer-has}
 use Rattle.rules.specs.Comments.{noComment, closed, illFormed, comment, commentApart}
 use Rattle.rules.specs.Modifiers.{withComment, modifier}
 use Rattle.rules.specs.Rows.{small, first, listed, following, isWide}
@@ -52,13 +53,13 @@ use Rattle.rules.specs.declared.Stage.{Stage}
 use Rattle.rules.specs.declared.Stage.the-variants.{Beginning, Always, Colon, After}
 use Rattle.sheet.specs.Texts.{parted, moreRules, noMore, rules, records}
 use Rattle.sheet.specs.Sheets.{refusal, judgedText, textOf, sheetBy}
-use Rattle.sheet.specs.Parts.{begins, partEnd}
-use Rattle.sheet.specs.PartReadings.{partTo, partRefusal, partBy}
+use Rattle.sheet.specs.Parts.{partEnd}
+use Rattle.sheet.specs.PartReadings.{partTo}
 use Rattle.sheet.specs.declared.Answer.{Answer}
 use Rattle.sheet.specs.declared.PartAnswer.{PartAnswer}
 use Rattle.demands.specs.Editions.{SheetNever8, PartNever8}
 use Rattle.demands.proofs.Judged.{second-rules}
-use Rattle.demands.proofs.Numbers.{either, next-same}
+use Rattle.demands.proofs.Numbers.{either, next-same, part-cases}
 use Rattle.demands.proofs.Points.{Other, Tells, nothing-tells, pure-tells, here-tells, refuse-tells, branch-tells, then-tells, or-tells, map-tells, if-tells, chain-tells}
 use Rattle.demands.proofs.Points.{many-tells, only-tells, one-tells, ahead-tells, atEnd-tells, skip-tells, byte-tells, allOf-tells, blanks-tells, blank-tells, comma-tells}
 use Rattle.demands.proofs.Points.{number-tells, word-tells, name-tells, OtherMeant, other-if, meant-tells, item-tells, timeItem-tells, offset-tells, weekdayItem-tells}
@@ -161,12 +162,21 @@ weekItem-tells : Tells weekItem
 unfolding weekItem
 weekItem-tells = item-tells weekShape-tells weekMeaning week-other
 
+dateItemAfter-tells : (p : ℕ) (y : Year) (d : Day) → Tells (dateItemAfter p y d)
+unfolding dateItemAfter
+dateItemAfter-tells p y d = meant-tells (datesAfter-tells (rawDate y d)) dateMeaning date-other p
+
+monthItemAfter-tells : (p : ℕ) (y : Year) (w : Word) → Tells (monthItemAfter p y w)
+unfolding monthItemAfter
+monthItemAfter-tells p y w = then-tells (only-tells (eqb (w .0) month)) (λ _. meant-tells (monthAfter-tells y (w .1)) monthMeaning month-other p)
+
+monthDayAfter-tells : (p : ℕ) (y : Year) (w : Word) → Tells (monthDayAfter p y w)
+unfolding monthDayAfter
+monthDayAfter-tells p y w = branch-tells (dayAfter-tells w) (dateItemAfter-tells p y) (monthItemAfter-tells p y w)
+
 monthDayItem-tells : Tells monthDayItem
-unfolding monthDayItem monthDayAfter dateItemAfter monthItemAfter
-monthDayItem-tells =
-    then-tells here-tells (λ p. then-tells optionalYear-tells (λ y. then-tells word-tells (λ w.
-    branch-tells (dayAfter-tells w) (λ d. meant-tells (datesAfter-tells (rawDate y d)) dateMeaning date-other p)
-    (then-tells (only-tells (eqb (w .0) month)) (λ _. meant-tells (monthAfter-tells y (w .1)) monthMeaning month-other p)))))
+unfolding monthDayItem
+monthDayItem-tells = then-tells here-tells (λ p. then-tells optionalYear-tells (λ y. then-tells word-tells (λ w. monthDayAfter-tells p y w)))
 
 -- ---- items
 
@@ -214,38 +224,38 @@ octet-tells : (lo hi : ℕ) → Tells (octet lo hi)
 unfolding octet
 octet-tells lo hi = map-tells (λ _. tt) (one-tells _)
 
-tail-tells : Tells utf8-tail
-unfolding utf8-tail
-tail-tells = octet-tells 0x80 0xBF
-
 longer-tells : Tells longer
-unfolding longer utf8-2 utf8-3 utf8-4
-longer-tells =
-    or-tells (then-tells (octet-tells _ _) (λ _. tail-tells))
-    (or-tells
-    (or-tells (then-tells (octet-tells _ _) (λ _. then-tells (octet-tells _ _) (λ _. tail-tells)))
-    (or-tells (then-tells (octet-tells _ _) (λ _. then-tells tail-tells (λ _. tail-tells)))
-    (or-tells (then-tells (octet-tells _ _) (λ _. then-tells (octet-tells _ _) (λ _. tail-tells))) (then-tells (octet-tells _ _) (λ _. then-tells tail-tells (λ _. tail-tells))))))
-    (or-tells (then-tells (octet-tells _ _) (λ _. then-tells (octet-tells _ _) (λ _. then-tells tail-tells (λ _. tail-tells))))
-    (or-tells (then-tells (octet-tells _ _) (λ _. then-tells tail-tells (λ _. then-tells tail-tells (λ _. tail-tells)))) (then-tells (octet-tells _ _) (λ _. then-tells
-    (octet-tells _ _) (λ _. then-tells tail-tells (λ _. tail-tells)))))))
+longer-tells = longer-has {P = Tells} (record { byte = λ lo hi h. octet-tells lo hi; both = λ M N. then-tells M (λ _. N); either = λ M N. or-tells M N })
 
 letters-tells : Tells letters
 unfolding letters letter plain
 letters-tells = map-tells (λ _. tt) (many-tells (or-tells (map-tells (λ _. tt) (one-tells isPlain)) longer-tells))
 
+closed-tells : (start : ℕ) → Tells (closed start)
+unfolding closed
+closed-tells start = then-tells here-tells (λ end. then-tells (byte-tells 34) (λ _. then-tells (only-tells (ltb start end)) (λ _. pure-tells _)))
+
+illFormed-tells : (p : ℕ) → Tells (illFormed p)
+unfolding illFormed
+illFormed-tells p = then-tells (one-tells isInner) (λ _. then-tells (skip-tells isInner) (λ _. then-tells (byte-tells 34) (λ _. refuse-tells 13 p (λ e. omega arith))))
+
 comment-tells : Tells comment
-unfolding comment closed illFormed
+unfolding comment
 comment-tells =
     then-tells here-tells (λ p. then-tells (byte-tells 34) (λ _. then-tells here-tells (λ start. then-tells letters-tells (λ _.
-    or-tells (then-tells here-tells (λ end. then-tells (byte-tells 34) (λ _. then-tells (only-tells (ltb start end)) (λ _. pure-tells _))))
-    (then-tells (one-tells isInner) (λ _. then-tells (skip-tells isInner) (λ _. then-tells (byte-tells 34) (λ _. refuse-tells 13 p (λ e. omega arith)))))))))
+    or-tells (closed-tells start) (illFormed-tells p)))))
+
+commentApart-tells : Tells commentApart
+unfolding commentApart
+commentApart-tells = then-tells blank-tells (λ _. comment-tells)
+
+withComment-tells : (state : ℕ) → Tells (withComment state)
+unfolding withComment
+withComment-tells state = then-tells (or-tells commentApart-tells (pure-tells noComment)) (λ c. pure-tells _)
 
 modifier-tells : Tells modifier
-unfolding modifier withComment commentApart
-modifier-tells =
-    or-tells (then-tells (name-tells names.modifier) (λ state. then-tells (or-tells (then-tells blank-tells (λ _. comment-tells)) (pure-tells noComment))
-    (λ c. pure-tells _))) (then-tells comment-tells (λ c. pure-tells _))
+unfolding modifier
+modifier-tells = or-tells (then-tells (name-tells names.modifier) withComment-tells) (then-tells comment-tells (λ c. pure-tells _))
 
 -- ---- rules
 
@@ -261,11 +271,16 @@ stop-tells : Tells stop
 unfolding stop
 stop-tells = record { tells = λ s i. only-tells (eqb i (length s) || eqb 59 (getD s i 0)) .tells s i }
 
+separator-tells : Tells separator
+unfolding separator
+separator-tells =
+    or-tells (then-tells (byte-tells 59) (λ _. pure-tells (Another 0)))
+    (or-tells (then-tells commaBlank-tells (λ _. pure-tells (Another 1)))
+    (then-tells bars-tells (λ _. pure-tells (Another 2))))
+
 next-tells : Tells next
-unfolding next separator
-next-tells =
-    or-tells (then-tells atEnd-tells (λ _. pure-tells Finished))
-    (or-tells (then-tells (byte-tells 59) (λ _. pure-tells (Another 0))) (or-tells (then-tells commaBlank-tells (λ _. pure-tells (Another 1))) (then-tells bars-tells (λ _. pure-tells (Another 2)))))
+unfolding next
+next-tells = or-tells (then-tells atEnd-tells (λ _. pure-tells Finished)) separator-tells
 
 itemFrom-tells : (ks : List Kind) → Tells (itemFrom Second ks)
 itemFrom-tells ks = map-tells (λ a. (a .0, After (a .1))) (itemIn-tells ks)
@@ -273,18 +288,32 @@ itemFrom-tells ks = map-tells (λ a. (a .0, After (a .1))) (itemIn-tells ks)
 afterColon-tells : Tells (afterColon Second)
 afterColon-tells = must-tells (afterBlank-tells (itemFrom-tells small))
 
+goesOn-tells : (k : Kind) → Tells (goesOn Second k)
+unfolding goesOn
+goesOn-tells k = then-tells comma-tells (λ _. must-tells (itemFrom-tells (listed k)))
+
+colonSign-tells : (k : Kind) → Tells (colonSign k)
+unfolding colonSign
+colonSign-tells k = then-tells (only-tells (isWide k)) (λ _. byte-tells 58)
+
+colon-tells : (k : Kind) → Tells (colon Second k)
+unfolding colon
+colon-tells k = then-tells (colonSign-tells k) (λ _. afterColon-tells)
+
 more-tells : (x : Stage) → Tells (more Second x)
-unfolding more goesOn colon colonSign
+unfolding more
 more-tells Beginning = itemFrom-tells first
 more-tells Always = nothing-tells
 more-tells Colon = afterColon-tells
-more-tells (After k) =
-    or-tells (then-tells comma-tells (λ _. must-tells (itemFrom-tells (listed k))))
-    (or-tells (then-tells (then-tells (only-tells (isWide k)) (λ _. byte-tells 58)) (λ _. afterColon-tells)) (afterBlank-tells (itemFrom-tells (following k))))
+more-tells (After k) = or-tells (goesOn-tells k) (or-tells (colon-tells k) (afterBlank-tells (itemFrom-tells (following k))))
+
+ruleEnd-tells : Tells ruleEnd
+unfolding ruleEnd
+ruleEnd-tells = or-tells stop-tells (or-tells commaBlank-tells bars-tells)
 
 empty-tells : Tells empty
-unfolding empty ruleEnd
-empty-tells = then-tells here-tells (λ p. then-tells (or-tells stop-tells (or-tells commaBlank-tells bars-tells)) (λ _. refuse-tells 11 p (λ e. omega arith)))
+unfolding empty
+empty-tells = then-tells here-tells (λ p. then-tells ruleEnd-tells (λ _. refuse-tells 11 p (λ e. omega arith)))
 
 end-tells : (x : Stage) → Tells (end x)
 unfolding end plainEnd
@@ -293,11 +322,17 @@ end-tells Always = or-tells (afterBlank-tells modifier-tells) (pure-tells _)
 end-tells Colon = or-tells (afterBlank-tells modifier-tells) (pure-tells _)
 end-tells (After k) = or-tells (afterBlank-tells modifier-tells) (pure-tells _)
 
+always-tells : Tells always
+unfolding always
+always-tells = then-tells (allOf-tells (λ b. b) (bytes "24/7")) (λ _. pure-tells _)
+
+wideComment-tells : Tells wideComment
+unfolding wideComment
+wideComment-tells = then-tells comment-tells (λ c. then-tells (byte-tells 58) (λ _. pure-tells _))
+
 opening-tells : Tells opening
-unfolding opening always wideComment
-opening-tells =
-    or-tells (then-tells (allOf-tells (λ b. b) (bytes "24/7")) (λ _. pure-tells _)) (or-tells (then-tells comment-tells (λ c. then-tells (byte-tells 58)
-    (λ _. pure-tells _))) (pure-tells _))
+unfolding opening
+opening-tells = or-tells always-tells (or-tells wideComment-tells (pure-tells _))
 
 rule-tells : (separator : ℕ) → Tells (rule Second separator)
 unfolding rule afterOpening
@@ -305,9 +340,13 @@ rule-tells separator = then-tells here-tells (λ p. then-tells opening-tells (λ
 
 -- ---- sheets
 
+parted-tells : (separator : ℕ) → Tells (parted Second separator)
+unfolding parted
+parted-tells separator = then-tells (rule-tells separator) (λ r. then-tells blanks-tells (λ _. then-tells (must-tells next-tells) (λ n. pure-tells (r, n))))
+
 moreRules-tells : (x : Next) → Tells (moreRules Second x)
-unfolding moreRules parted
-moreRules-tells (Another separator) = then-tells blanks-tells (λ _. then-tells (rule-tells separator) (λ r. then-tells blanks-tells (λ _. then-tells (must-tells next-tells) (λ n. pure-tells (r, n)))))
+unfolding moreRules
+moreRules-tells (Another separator) = then-tells blanks-tells (λ _. parted-tells separator)
 moreRules-tells Finished = nothing-tells
 
 noMore-tells : (x : Next) → Tells (noMore x)
@@ -332,10 +371,12 @@ pub sheet-never : SheetNever8
 unfolding sheetBy
 sheet-never s n = either (λ (x : Answer × List (List ℤ)). x .0 .number ≡ 8 → ⊥) (ltb 4096 (length s)) (refusal 1 0) (textOf Second s 0 n) (λ e. omega arith) (text-never s 0 n)
 
+-- a part's answer is not 8
+abbrev PartNot8 : PartAnswer × List (List ℤ) → Type 0
+PartNot8 x = x .0 .number ≡ 8 → ⊥
+
 pub part-never : PartNever8
-unfolding partBy
 part-never s p n =
     let k = partEnd s p in
-    let P : PartAnswer × List (List ℤ) → Type 0 = λ x. x .0 .number ≡ 8 → ⊥ in
-    either P (ltb 4096 (length s)) (partRefusal 1) (if not (begins s p) then partRefusal 2 else partTo Second s p n k) (λ e. omega arith)
-    (either P (not (begins s p)) (partRefusal 2) (partTo Second s p n k) (λ e. omega arith) (λ e. text-never (take k s) p n (sym (next-same s k (textOf Second (take k s) p n .0)) ∙ e)))
+    let read : PartNot8 (partTo Second s p n k) = λ e. text-never (take k s) p n (sym (next-same s k (textOf Second (take k s) p n .0)) ∙ e) in
+    part-cases PartNot8 Second s p n (λ e. omega arith) (λ e. omega arith) read

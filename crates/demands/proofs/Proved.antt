@@ -9,7 +9,7 @@ use lib.ListN.{length, replicate}
 use Rattle.names.specs.Texts.{bytes}
 use Rattle.sheet.specs.Sheets.{sheetOf}
 use Rattle.sheet.specs.PartReadings.{partOf}
-use Rattle.entries.specs.Calls.{flag, sheetNumbers, partNumbers}
+use Rattle.c_calls.specs.Calls.{flag, sheetNumbers, partNumbers}
 use Rattle.demands.proofs.Opened.{opened}
 
 -- what is read: the whole sheet; or the part at a place, whose answer also has the next part's place and whether it is the last

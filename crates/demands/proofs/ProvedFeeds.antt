@@ -6,7 +6,7 @@ use lib.IntN.{ℤ, pos}
 use Rattle.names.specs.Texts.{bytes}
 use Rattle.feed.specs.Lines.{lines}
 use Rattle.feed.specs.Feeds.{readings, feedOf}
-use Rattle.entries.specs.Calls.{feedNumbers}
+use Rattle.c_calls.specs.Calls.{feedNumbers}
 use Rattle.demands.proofs.Opened.{opened}
 
 -- a feed, the places of the answer table, the words of the record table, and the answer: number, lines and records, and those of each line

@@ -1,29 +1,28 @@
 -- A refusal leaves everything as it was, for each of the eighteen calls that read: whatever meets its promise, with a number other than 0.
 use Prim.Native.Nat.{ℕ, suc, _/_}
 use mathlib.Core.List.{List, [], _∷_}
-use mathlib.Core.Bool.{true, false, not}
+use mathlib.Core.Bool.{true, false}
 use mathlib.Core.Path.{_≡_, refl, sym, ap, subst}
 use lib.Dec.{ltb}
 use lib.IntN.{ℤ}
 use lib.ListN.{length, take, getD}
 use Rattle.names.specs.declared.Manner.{Manner}
-use Rattle.names.specs.Tests.{if_then_else_}
 use Rattle.names.specs.Read.{Read, got, none, refused}
-use Rattle.names.specs.Refusals.{noPart, noRoom, tooLong, unknownEdition}
+use Rattle.names.specs.Refusals.{noRoom, tooLong, unknownEdition}
 use Rattle.records.specs.Tables.{Layout, laid}
 use Rattle.rules.specs.Rules.{Rule}
 use Rattle.sheet.specs.Texts.{judgedRules, records}
 use Rattle.sheet.specs.Sheets.{refusal, judgedText, textOf, sheetBy, tableAfterAs, sheetReadingBy, sheetReadingBytesBy}
-use Rattle.sheet.specs.Parts.{begins, partEnd}
+use Rattle.sheet.specs.Parts.{partEnd}
 use Rattle.sheet.specs.PartReadings.{partAnswerOf, withNext, partTo, partRefusal, partBy, partReadingBy, partReadingBytesBy}
 use Rattle.sheet.specs.declared.Answer.{Answer}
 use Rattle.sheet.specs.declared.PartAnswer.{PartAnswer}
 use Rattle.sheet.specs.Editions.{editionOf, inEdition, sheetReadingIn, sheetReadingBytesIn, partReadingIn, partReadingBytesIn}
 use Rattle.sheet.specs.declared.Edition.{Edition}
 use Rattle.sheet.specs.declared.Edition.the-variants.{Known, Unknown}
-use Rattle.entries.specs.Calls.{sheetCallBy, sheetCallIn, partCallBy, partCallIn}
+use Rattle.c_calls.specs.Calls.{sheetCallBy, sheetCallIn, partCallBy, partCallIn}
 use Rattle.demands.specs.Untouched.{Untouched}
-use Rattle.demands.proofs.Numbers.{either}
+use Rattle.demands.proofs.Numbers.{either, part-cases}
 
 -- ---- a refusal has no records
 
@@ -59,11 +58,10 @@ next-empty s e a rs h = either (λ r. EmptyPart (r, rs)) (ltb e (length s)) (par
 
 -- of a part
 part-empty : (m : Manner) (s : List ℕ) (p n : ℕ) → EmptyPart (partBy m s p n)
-unfolding partBy
 part-empty m s p n =
     let e = partEnd s p in
-    either EmptyPart (ltb 4096 (length s)) (partRefusal tooLong) (if not (begins s p) then partRefusal noPart else partTo m s p n e) (λ x. (refl, refl, refl))
-    (either EmptyPart (not (begins s p)) (partRefusal noPart) (partTo m s p n e) (λ x. (refl, refl, refl)) (next-empty s e _ _ (text-empty m (take e s) p n)))
+    let read : EmptyPart (partTo m s p n e) = next-empty s e _ _ (text-empty m (take e s) p n) in
+    part-cases EmptyPart m s p n (λ x. (refl, refl, refl)) (λ x. (refl, refl, refl)) read
 
 -- ---- so it leaves the table
 

@@ -57,9 +57,11 @@ module _ (rest : List ℕ) where
   laid-bytes c (r ∷ rs) w k h l =
       let e : k + suc (length rs) ≡ suc k + length rs = omega arith in
       let room : suc k * c ≤ length w = le-trans (mul-le-mul-right c (omega arith)) l in
+      let stored : sets (recordBytes w ++ rest) (k * c * 4) (recordBytes r) ≡ recordBytes (sets w (k * c) r) ++ rest = record-bytes r w (k * c) (omega (arith, h .0, suc-mul k c)) in
+      let later = laid-bytes c rs (sets w (k * c) r) (suc k) (h .1) (rw (length-sets, ← e) l) in
       ap (λ (n : ℕ). laid (inBytes c) (sets (recordBytes w ++ rest) n (recordBytes r)) (suc k) rs) (sym (mul-assoc k c 4))
-      ∙ ap (λ (t : List ℕ). laid (inBytes c) t (suc k) rs) (record-bytes r w (k * c) (omega (arith, h .0, suc-mul k c)))
-      ∙ laid-bytes c rs (sets w (k * c) r) (suc k) (h .1) (rw (length-sets, ← e) l)
+      ∙ ap (λ (t : List ℕ). laid (inBytes c) t (suc k) rs) stored
+      ∙ later
 
 -- a record has 16 words
 pub each-sixteen : (rs : List (List ℤ)) → Sixteen rs → Each 16 rs
@@ -77,18 +79,20 @@ module _ (w : List ℤ) (rest : List ℕ) (k : ℕ) (e : length w ≡ k * 16) (h
   unfolding sheetReadingBytesBy sheetReadingBy
   sheet-as-words m s =
       let t : List ℕ = recordBytes w ++ rest in
-      let q = sheet-held m s (length w) in
-      ap (λ (n : ℕ). writtenAs asBytes t (sheetBy m s n)) room
-      ∙ ap (λ (l : List ℕ). (sheetBy m s (length w) .0, l)) (laid-bytes rest 16 (sheetBy m s (length w) .1) w 0 (each-sixteen (sheetBy m s (length w) .1) (q .long)) (omega (arith, q .room)))
+      let held = sheet-held m s (length w) in
+      let records = sheetBy m s (length w) .1 in
+      let laid-so = laid-bytes rest 16 records w 0 (each-sixteen records (held .long)) (omega (arith, held .room)) in
+      ap (λ (n : ℕ). writtenAs asBytes t (sheetBy m s n)) room ∙ ap (λ (l : List ℕ). (sheetBy m s (length w) .0, l)) laid-so
 
   -- and after a part is
   pub part-as-words : (m : Manner) (s : List ℕ) (p : ℕ) → partReadingBytesBy m s p (recordBytes w ++ rest) ≡ (partReadingBy m s p w .0, recordBytes (partReadingBy m s p w .1) ++ rest)
   unfolding partReadingBytesBy partReadingBy
   part-as-words m s p =
       let t : List ℕ = recordBytes w ++ rest in
-      let q = part-held m s p (length w) in
-      ap (λ (n : ℕ). writtenAs asBytes t (partBy m s p n)) room
-      ∙ ap (λ (l : List ℕ). (partBy m s p (length w) .0, l)) (laid-bytes rest 16 (partBy m s p (length w) .1) w 0 (each-sixteen (partBy m s p (length w) .1) (q .long)) (omega (arith, q .room)))
+      let held = part-held m s p (length w) in
+      let records = partBy m s p (length w) .1 in
+      let laid-so = laid-bytes rest 16 records w 0 (each-sixteen records (held .long)) (omega (arith, held .room)) in
+      ap (λ (n : ℕ). writtenAs asBytes t (partBy m s p n)) room ∙ ap (λ (l : List ℕ). (partBy m s p (length w) .0, l)) laid-so
 
 -- so of every table of bytes (`bytes-of-words`)
 module _ {t : List ℕ} (b : BytesOfWords t) (s : List ℕ) where

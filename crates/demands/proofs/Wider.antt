@@ -18,6 +18,7 @@ use Rattle.names.specs.declared.Manner.the-variants.{First, Second}
 use Rattle.names.proofs.Laws.{one-is}
 use Rattle.names.proofs.Skips.{skip-sure}
 use Rattle.records.specs.Items.{judged}
+use Rattle.records.specs.declared.Item.{Item}
 use Rattle.records.specs.declared.Meant.{Meant}
 use Rattle.records.specs.declared.Meant.the-variants.{Is, Refused}
 use Rattle.times.specs.Meanings.{goodSpan, spanOf, spanMeaning}
@@ -160,12 +161,15 @@ module _ (s : List ℕ) where
   judged-dead p j (Is a) d = d
   judged-dead p j (Refused k) d = tt
 
+  shape-wide : (i : ℕ) → Wide DeadAfter (weekdayShape First s i) (weekdayShape Second s i)
+  unfolding weekdayShape
+  shape-wide i = wide-then DeadAfter s i (weekdayAfter First) (weekdayAfter Second) (name weekday s i) (λ first j e. after-wide first j)
+
   pub weekday-wide : (i : ℕ) → Wide DeadAfter (weekdayItem First s i) (weekdayItem Second s i)
-  unfolding weekdayItem weekdayShape
+  unfolding weekdayItem
   weekday-wide i =
-      wide-branch DeadAfter DeadAfter s i (λ r. judged i (weekdayMeaning r)) (λ r. judged i (weekdayMeaning r)) nothing nothing
-      (wide-then DeadAfter s i (weekdayAfter First) (weekdayAfter Second) (name weekday s i) (λ first j e. after-wide first j))
-      (λ r j e. same) (λ r j e d. judged-dead i j (weekdayMeaning r) d) same
+      let meant : RawWeekdays → Reader Item = λ r. judged i (weekdayMeaning r) in
+      wide-branch DeadAfter DeadAfter s i meant meant nothing nothing (shape-wide i) (λ r j e. same) (λ r j e d. judged-dead i j (weekdayMeaning r) d) same
 
   -- ---- times
 

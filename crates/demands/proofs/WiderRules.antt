@@ -14,6 +14,7 @@ use Rattle.names.specs.Texts.{byte, blank, blanks, comma}
 use Rattle.names.specs.Numbers.{isDigit, digit, upTo, digits, hour}
 use Rattle.names.specs.Names.{event}
 use Rattle.names.specs.Names as names
+use Rattle.names.specs.declared.Manner.{Manner}
 use Rattle.names.specs.declared.Manner.the-variants.{First, Second}
 use Rattle.names.proofs.Laws.{one-is, inside, within-below}
 use Rattle.names.proofs.Local.{past-one}
@@ -102,15 +103,23 @@ module _ (s : List ℕ) where
   colon-wide : (i : ℕ) → Wide DeadStage (afterColon First s i) (afterColon Second s i)
   colon-wide i = must-wide (afterBlank (itemFrom First small)) (afterBlank (itemFrom Second small)) i (afterBlank-wide small i)
 
+  listed-wide : (k : Kind) (i : ℕ) → Wide DeadStage (must (itemFrom First (listed k)) s i) (must (itemFrom Second (listed k)) s i)
+  listed-wide k i = must-wide (itemFrom First (listed k)) (itemFrom Second (listed k)) i (from-wide (listed k) i)
+
+  goesOn-wide : (k : Kind) (i : ℕ) → Wide DeadStage (goesOn First k s i) (goesOn Second k s i)
+  unfolding goesOn
+  goesOn-wide k i = wide-then DeadStage s i (λ _. must (itemFrom First (listed k))) (λ _. must (itemFrom Second (listed k))) (comma s i) (λ _ j e. listed-wide k j)
+
+  colon-item-wide : (k : Kind) (i : ℕ) → Wide DeadStage (colon First k s i) (colon Second k s i)
+  unfolding colon
+  colon-item-wide k i = wide-then DeadStage s i (λ _. afterColon First) (λ _. afterColon Second) (colonSign k s i) (λ _ j e. colon-wide j)
+
   more-wide : (x : Stage) (i : ℕ) → Wide DeadStage (more First x s i) (more Second x s i)
-  unfolding more goesOn colon
+  unfolding more
   more-wide Beginning i = from-wide first i
   more-wide Always i = same
   more-wide Colon i = colon-wide i
-  more-wide (After k) i =
-      wide-or DeadStage s i _ _ (wide-then DeadStage s i (λ _. must (itemFrom First (listed k))) (λ _. must (itemFrom Second (listed k))) (comma s i) (λ _ j e. must-wide
-      (itemFrom First (listed k)) (itemFrom Second (listed k)) j (from-wide (listed k) j)))
-      (wide-or DeadStage s i _ _ (wide-then DeadStage s i (λ _. afterColon First) (λ _. afterColon Second) (colonSign k s i) (λ _ j e. colon-wide j)) (afterBlank-wide (following k) i))
+  more-wide (After k) i = wide-or DeadStage s i _ _ (goesOn-wide k i) (wide-or DeadStage s i _ _ (colon-item-wide k i) (afterBlank-wide (following k) i))
 
   -- ---- after a dead place
 
@@ -246,8 +255,9 @@ module _ (s : List ℕ) where
   unfolding chainIn
   chain-wide zero x i = same
   chain-wide (suc n) x i =
-      wide-branch Never Never s i (λ a. map (before (a .0)) (chainIn n (moreRules First) noMore (a .1))) (λ a. map (before (a .0)) (chainIn n (moreRules Second) noMore
-      (a .1))) (map last (noMore x)) (map last (noMore x)) (step-wide x i)
+      let later : Manner → Rule × Next → Reader (List Rule × Unit {0}) = λ m a. map (before (a .0)) (chainIn n (moreRules m) noMore (a .1)) in
+      let done = map last (noMore x) in
+      wide-branch Never Never s i (later First) (later Second) done done (step-wide x i)
       (λ a j e. wide-map Never Never s j (before (a .0)) (chain-wide n (a .1) j) (λ r k d. d))
       (λ a j e d. absurd d)
       same

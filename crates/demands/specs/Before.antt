@@ -10,7 +10,7 @@ use Rattle.names.specs.Quotes.{insideOf}
 use Rattle.names.specs.declared.Manner.{Manner}
 use Rattle.sheet.specs.Parts.{begins, partEnd}
 use Rattle.sheet.specs.PartReadings.{partBy, partReadingBy, partReadingBytesBy}
-use Rattle.entries.specs.Calls.{partCallBy}
+use Rattle.c_calls.specs.Calls.{partCallBy}
 
 -- the sheets u;b and u;c, whatever b and c are: broken quotes, control bytes, bytes above 127
 pub record Damaged (u b c : List ℕ) : Type 0 where

@@ -8,7 +8,7 @@ use Rattle.sheet.specs.Sheets.{answerOf}
 use Rattle.sheet.specs.PartReadings.{partAnswerOf}
 use Rattle.sheet.specs.declared.Answer.{Answer}
 use Rattle.sheet.specs.declared.PartAnswer.{PartAnswer}
-use Rattle.entries.specs.Calls.{sheetCallBy, partCallBy}
+use Rattle.c_calls.specs.Calls.{sheetCallBy, partCallBy}
 
 -- number, place, records, warnings
 abbrev pub answerIn : List ℕ → Answer

@@ -55,9 +55,9 @@ pub line-from : (words : List ℤ) (bytes : List ℕ) (k w b : ℕ) (r : Reading
     (a, (x, y)) ≡ into (midOf w (length words - w) words, midOf b (length bytes - b) bytes) r →
     (a, (putMid w (length words - w) words x, putMid b (length bytes - b) bytes y)) ≡ lineInto (words, bytes) k r
 line-from words bytes k w b r {a} {x} {y} f g e =
-    rw (part-back words x w (f .1), part-back bytes y b (g .1))
-    (ap (λ (z : Answer × Tables). (z .0, (take w words ++ z .1 .0, take b bytes ++ z .1 .1))) e
-    ∙ rw (
+    let free : Tables = (midOf w (length words - w) words, midOf b (length bytes - b) bytes) in
+    let joined : Answer × Tables → Answer × Tables = λ z. (z .0, (take w words ++ z .1 .0, take b bytes ++ z .1 .1)) in
+    let from-slot : joined (into free r) ≡ lineInto (words, bytes) k r = rw (
       part-to-end words w,
       part-to-end bytes b,
       all-each (r .1) (drop w words, drop b bytes) 0,
@@ -66,7 +66,8 @@ line-from words bytes k w b r {a} {x} {y} f g e =
       all-from asBytes (omega arith) (r .1) bytes k,
       f .0,
       g .0,
-    ))
+    ) in
+    rw (part-back words x w (f .1), part-back bytes y b (g .1)) (ap joined e ∙ from-slot)
 
 -- ---- many lines
 

@@ -47,7 +47,8 @@ fn lines_into(
     words: &mut [i32],
     bytes: &mut [u8],
 ) -> FeedAnswer
-    ensures { λ r. ⌜ (r, ((now («answer_words» .exit), now («answer_bytes» .exit)), (now (words .exit), now (bytes .exit)))) ≡ into.feedInto (now («answer_words» .entry), now («answer_bytes» .entry)) (now (words .entry), now (bytes .entry)) (feeds.allOf (feeds.readings (lines (now (feed .entry))) size)) ⌝ }
+    ensures { λ r. ⌜ (r, ((now («answer_words» .exit), now («answer_bytes» .exit)), (now (words .exit), now (bytes .exit))))
+        ≡ into.feedInto (now («answer_words» .entry), now («answer_bytes» .entry)) (now (words .entry), now (bytes .entry)) (feeds.allOf (feeds.readings (lines (now (feed .entry))) size)) ⌝ }
 {
     let mut n: usize = 0;
     let mut records: usize = 0;
@@ -77,7 +78,8 @@ fn feed_into(
     words: &mut [i32],
     bytes: &mut [u8],
 ) -> FeedAnswer
-    ensures { λ r. ⌜ (r, ((now («answer_words» .exit), now («answer_bytes» .exit)), (now (words .exit), now (bytes .exit)))) ≡ into.feedInto (now («answer_words» .entry), now («answer_bytes» .entry)) (now (words .entry), now (bytes .entry)) (feeds.feedOf (now (feed .entry)) places size) ⌝ }
+    ensures { λ r. ⌜ (r, ((now («answer_words» .exit), now («answer_bytes» .exit)), (now (words .exit), now (bytes .exit))))
+        ≡ into.feedInto (now («answer_words» .entry), now («answer_bytes» .entry)) (now (words .entry), now (bytes .entry)) (feeds.feedOf (now (feed .entry)) places size) ⌝ }
 {
     if places < lines_in(feed) {
         return FeedAnswer {

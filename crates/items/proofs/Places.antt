@@ -43,12 +43,17 @@ module _ (s : List ℕ) where
   at-inside : {k : ℕ} {m : Reader Item} → Alike [] (suc k) m → (i : ℕ) → Upto (Inside i) (at m s i)
   at-inside {m = m} M i = upto-then (Inside i) s i (λ a. pure (a, i)) (m s i) (λ a j e. (omega arith, past-one M e .0))
 
+  -- a week's number that stands later
+  week-inside : (i j : ℕ) → i ≤ j → Upto (Inside i) (at weekItem s j)
+  week-inside i j h = upto-less (Inside j) (Inside i) (λ a k. inside-from a k h) (at weekItem s j) (at-inside weekItem-alike j)
+
+  -- what stands after the word
+  afterWeek-inside : (i j : ℕ) → i ≤ j → Upto (Inside i) (must (afterBlank (at weekItem)) s j)
+  afterWeek-inside i j h = must-upto (Inside i) j (afterBlank (at weekItem)) (afterBlank-upto (Inside i) j (at weekItem) (λ k l. week-inside i k (omega arith)))
+
   weeks-inside : (i : ℕ) → Upto (Inside i) (weeks s i)
   unfolding weeks
-  weeks-inside i =
-      upto-then (Inside i) s i (λ _. must (afterBlank (at weekItem))) (name week s i) (λ _ j e. must-upto (Inside i) j (afterBlank (at weekItem))
-      (afterBlank-upto (Inside i) j (at weekItem) (λ k h. upto-less (Inside k) (Inside i) (λ a l. inside-from a l (omega (arith, past-one (name-local week) e .0)))
-      (at weekItem s k) (at-inside weekItem-alike k))))
+  weeks-inside i = upto-then (Inside i) s i (λ _. must (afterBlank (at weekItem))) (name week s i) (λ _ j e. afterWeek-inside i j (omega (arith, past-one (name-local week) e .0)))
 
   itemOf-inside : (m : Manner) (k : Kind) (i : ℕ) → Upto (Inside i) (itemOf m k s i)
   unfolding itemOf

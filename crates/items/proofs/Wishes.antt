@@ -40,6 +40,9 @@ module _ (set : ℕ) where
   abbrev days : List Kind
   days = Weekdays ∷ LastWeekdays ∷ Holidays ∷ LastHolidays ∷ numbered
 
+  abbrev holidays : List Kind
+  holidays = Holidays ∷ LastHolidays ∷ numbered
+
   -- none of the last
   no-week-number : (n : ℕ) → wish n set (WeekNumbers ∷ []) ≡ Not
   unfolding beginsWith picked wished
@@ -48,41 +51,47 @@ module _ (set : ℕ) where
   no-number : (n : ℕ) → beginsWith n Times ≡ false → wish n set numbered ≡ Not
   no-number n e = skip n set Times (WeekNumbers ∷ []) e ∙ no-week-number n
 
-  pub weekday-wish : wished weekday (kindsOf set) ≡ wishIf (hasKind set Weekdays) Weekdays (wishIf (hasKind set LastWeekdays) LastWeekdays Not)
+  -- past the kinds that do not begin with such a name
+  to-days : (n : ℕ) → beginsWith n MonthDays ≡ false → beginsWith n Weeks ≡ false → wished n (kindsOf set) ≡ wish n set days
   unfolding kindsOf beginsWith
+  to-days n a b = skip n set MonthDays _ a ∙ skip n set Years _ refl ∙ skip n set Weeks _ b
+
+  no-weekdays : (n : ℕ) → beginsWith n Weekdays ≡ false → wish n set days ≡ wish n set holidays
+  unfolding beginsWith
+  no-weekdays n e = skip n set Weekdays _ e ∙ skip n set LastWeekdays _ e
+
+  no-holidays : (n : ℕ) → beginsWith n Holidays ≡ false → wish n set holidays ≡ wish n set numbered
+  unfolding beginsWith
+  no-holidays n e = skip n set Holidays _ e ∙ skip n set LastHolidays _ e
+
+  pub weekday-wish : wished weekday (kindsOf set) ≡ wishIf (hasKind set Weekdays) Weekdays (wishIf (hasKind set LastWeekdays) LastWeekdays Not)
+  unfolding beginsWith
   weekday-wish =
-      let n = weekday in
-      skip n set MonthDays _ refl ∙ skip n set Years _ refl ∙ skip n set Weeks _ refl ∙ take n set Weekdays _ refl
-      ∙ ap (wishIf (hasKind set Weekdays) Weekdays) (take n set LastWeekdays _ refl ∙ ap (wishIf (hasKind set LastWeekdays) LastWeekdays) (skip n set Holidays _ refl
-      ∙ skip n set LastHolidays _ refl ∙ no-number n refl))
+      let no-later = no-holidays weekday refl ∙ no-number weekday refl in
+      let last = take weekday set LastWeekdays _ refl ∙ ap (wishIf (hasKind set LastWeekdays) LastWeekdays) no-later in
+      to-days weekday refl refl ∙ take weekday set Weekdays _ refl ∙ ap (wishIf (hasKind set Weekdays) Weekdays) last
 
   pub holiday-wish : wished holiday (kindsOf set) ≡ wishIf (hasKind set Holidays) Holidays (wishIf (hasKind set LastHolidays) LastHolidays Not)
-  unfolding kindsOf beginsWith
+  unfolding beginsWith
   holiday-wish =
-      let n = holiday in
-      skip n set MonthDays _ refl ∙ skip n set Years _ refl ∙ skip n set Weeks _ refl ∙ skip n set Weekdays _ refl ∙ skip n set LastWeekdays _ refl ∙ take n set Holidays _ refl
-      ∙ ap (wishIf (hasKind set Holidays) Holidays) (take n set LastHolidays _ refl ∙ ap (wishIf (hasKind set LastHolidays) LastHolidays) (no-number n refl))
+      let last = take holiday set LastHolidays _ refl ∙ ap (wishIf (hasKind set LastHolidays) LastHolidays) (no-number holiday refl) in
+      to-days holiday refl refl ∙ no-weekdays holiday refl ∙ take holiday set Holidays _ refl ∙ ap (wishIf (hasKind set Holidays) Holidays) last
 
   pub event-wish : wished event (kindsOf set) ≡ wishIf (hasKind set Times) Times Not
-  unfolding kindsOf beginsWith
+  unfolding beginsWith
   event-wish =
-      let n = event in
-      skip n set MonthDays _ refl ∙ skip n set Years _ refl ∙ skip n set Weeks _ refl ∙ skip n set Weekdays _ refl ∙ skip n set LastWeekdays _ refl
-      ∙ skip n set Holidays _ refl ∙ skip n set LastHolidays _ refl
-      ∙ take n set Times _ refl ∙ ap (wishIf (hasKind set Times) Times) (no-week-number n)
+      to-days event refl refl ∙ no-weekdays event refl ∙ no-holidays event refl ∙ take event set Times _ refl ∙ ap (wishIf (hasKind set Times) Times) (no-week-number event)
 
   pub week-wish : wished week (kindsOf set) ≡ wishIf (hasKind set Weeks) Weeks Not
   unfolding kindsOf beginsWith
   week-wish =
-      let n = week in
-      skip n set MonthDays _ refl ∙ skip n set Years _ refl ∙ take n set Weeks _ refl
-      ∙ ap (wishIf (hasKind set Weeks) Weeks) (skip n set Weekdays _ refl ∙ skip n set LastWeekdays _ refl ∙ skip n set Holidays _ refl ∙ skip n set LastHolidays _ refl ∙ no-number n refl)
+      let no-later = no-weekdays week refl ∙ no-holidays week refl ∙ no-number week refl in
+      skip week set MonthDays _ refl ∙ skip week set Years _ refl ∙ take week set Weeks _ refl ∙ ap (wishIf (hasKind set Weeks) Weeks) no-later
 
   -- after the month days: none
   date-rest : (n : ℕ) → beginsWith n Weeks ≡ false → beginsWith n Weekdays ≡ false → beginsWith n Holidays ≡ false → beginsWith n Times ≡ false → wish n set (Years ∷ Weeks ∷ days) ≡ Not
   unfolding beginsWith
-  date-rest n a b c d =
-      skip n set Years _ refl ∙ skip n set Weeks _ a ∙ skip n set Weekdays _ b ∙ skip n set LastWeekdays _ b ∙ skip n set Holidays _ c ∙ skip n set LastHolidays _ c ∙ no-number n d
+  date-rest n a b c d = skip n set Years _ refl ∙ skip n set Weeks _ a ∙ no-weekdays n b ∙ no-holidays n c ∙ no-number n d
 
   pub month-wish : wished month (kindsOf set) ≡ wishIf (hasKind set MonthDays) MonthDays Not
   unfolding kindsOf beginsWith

@@ -17,6 +17,8 @@ unfolding opened outputOf lines line signed decimal digitsIn
 empty-rule = refl
 
 -- a warning, and an offset of -10 days
-ten-days-before : outputOf (bytes "tu; PH -10 days") ≡ bytes "0 0 4 1\n1 0 0 0 0 1 0 0 0 0 0 0 0 0 0 0\n6 2 2 0 31 31 0 0 0 0 0 0 0 0 0 0\n1 0 0 0 0 1 0 0 0 0 0 0 0 0 0 4\n7 1 -10 0 0 0 0 0 0 0 0 0 0 0 0 4\n"
+ten-days-before :
+    outputOf (bytes "tu; PH -10 days")
+    ≡ bytes "0 0 4 1\n1 0 0 0 0 1 0 0 0 0 0 0 0 0 0 0\n6 2 2 0 31 31 0 0 0 0 0 0 0 0 0 0\n1 0 0 0 0 1 0 0 0 0 0 0 0 0 0 4\n7 1 -10 0 0 0 0 0 0 0 0 0 0 0 0 4\n"
 unfolding opened outputOf lines line signed decimal digitsIn
 ten-days-before = refl

@@ -340,15 +340,21 @@ module _ {u : List ℕ} (m : Manner) (separator : ℕ) where
   pub afterOpening-local : (place : ℕ) (o : Opening) → Local Stop ruleMoves u false false 0 (afterOpening m (length u + place) separator (openingMoves (length u) o)) (afterOpening m place separator o)
   afterOpening-local place o = afterOpening-takes place o (pieces-local m o.stage)
 
+  -- a rule that does not begin with `24/7`: the comment of a wide part takes a byte, or what is after no opening
+  not-always-local : (place : ℕ) →
+      let n = branch wideComment pure (pure (openingOf Beginning noComment)) in
+      Local Stop ruleMoves u false false 1 (branch n (afterOpening m (length u + place) separator) nothing) (branch n (afterOpening m place separator) nothing)
+  not-always-local place =
+      let o = openingOf Beginning noComment in
+      let after = afterOpening m (length u + place) separator in
+      or-then-moved (pure o) (pure o) after (afterOpening m place separator) (loose wideComment-local (omega arith)) (afterOpening-local place) (afterOpening-takes place o (beginning-local m))
+
   -- a rule takes a byte: its opening does, or what is after none
   opened-local : (place : ℕ) → Local Stop ruleMoves u false false 1 (branch opening (afterOpening m (length u + place) separator) nothing) (branch opening (afterOpening m place separator) nothing)
   unfolding opening
   opened-local place =
-      let f : ℕ → Opening → Reader Rule = λ p. afterOpening m p separator in
-      let o : Opening = openingOf Beginning noComment in
-      let n : Reader Opening = branch wideComment pure (pure o) in
-      or-then-moved n n (f (length u + place)) (f place) (loose always-local (omega arith)) (afterOpening-local place)
-      (or-then-moved (pure o) (pure o) (f (length u + place)) (f place) (loose wideComment-local (omega arith)) (afterOpening-local place) (afterOpening-takes place o (beginning-local m)))
+      let n = branch wideComment pure (pure (openingOf Beginning noComment)) in
+      or-then-moved n n (afterOpening m (length u + place) separator) (afterOpening m place separator) (loose always-local (omega arith)) (afterOpening-local place) (not-always-local place)
 
   pub rule-local : Local Stop ruleMoves u false false 1 (rule m separator) (rule m separator)
   unfolding rule

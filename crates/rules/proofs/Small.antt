@@ -62,9 +62,9 @@ module _ (s : List ℕ) where
   modifier-small : (i : ℕ) → Found (SmallEnd (length s)) (modifier s i)
   unfolding modifier
   modifier-small i =
-      found-or (SmallEnd (length s)) s i (branch (name names.modifier) withComment nothing s i) (map (tailOf 0) comment)
-      (found-then (SmallEnd (length s)) s i withComment (name names.modifier s i) (λ state j _. with-small state j))
-      (found-then (SmallEnd (length s)) s i (λ c. pure (tailOf 0 c)) (comment s i) (λ c j e. found-is (Small (length s)) (comment s i) (comment-small i) e))
+      let named-small = found-then (SmallEnd (length s)) s i withComment (name names.modifier s i) (λ state j _. with-small state j) in
+      let bare-small = found-then (SmallEnd (length s)) s i (λ c. pure (tailOf 0 c)) (comment s i) (λ c j e. found-is (Small (length s)) (comment s i) (comment-small i) e) in
+      found-or (SmallEnd (length s)) s i (branch (name names.modifier) withComment nothing s i) (map (tailOf 0) comment) named-small bare-small
 
   -- what is missing has no value
   missing-small : {A : Type 0} (P : A → Type 0) (i : ℕ) → Found P (missing s i)
@@ -79,15 +79,15 @@ module _ (s : List ℕ) where
   -- a modifier after a blank, or none
   selected-small : (i : ℕ) → Found (SmallEnd (length s)) ((afterBlank modifier or pure (tailOf 0 noComment)) s i)
   selected-small i =
-      found-or (SmallEnd (length s)) s i (afterBlank modifier s i) (pure (tailOf 0 noComment)) (found-then (SmallEnd (length s)) s i (λ _. modifier) (blank s i)
-      (λ _ j _. modifier-small j)) (no-small (length s))
+      let apart-small = found-then (SmallEnd (length s)) s i (λ _. modifier) (blank s i) (λ _ j _. modifier-small j) in
+      found-or (SmallEnd (length s)) s i (afterBlank modifier s i) (pure (tailOf 0 noComment)) apart-small (no-small (length s))
 
   -- the comment of a rule's end
   pub end-small : (x : Stage) (i : ℕ) → Found (SmallEnd (length s)) (end x s i)
   unfolding end plainEnd
   end-small Beginning i =
-      found-or (SmallEnd (length s)) s i (modifier s i) (plainEnd Beginning) (modifier-small i) (found-or (SmallEnd (length s)) s i (empty s i) missing (empty-small
-      (SmallEnd (length s)) i) (missing-small (SmallEnd (length s)) i))
+      let plain-small = found-or (SmallEnd (length s)) s i (empty s i) missing (empty-small (SmallEnd (length s)) i) (missing-small (SmallEnd (length s)) i) in
+      found-or (SmallEnd (length s)) s i (modifier s i) (plainEnd Beginning) (modifier-small i) plain-small
   end-small Always i = selected-small i
   end-small Colon i = selected-small i
   end-small (After k) i = selected-small i
@@ -105,8 +105,8 @@ module _ (s : List ℕ) where
   unfolding opening
   opening-small i e =
       let plain = pure (openingOf Beginning noComment) in
-      found-is (SmallOpening (length s)) _ (found-or (SmallOpening (length s)) s i (always s i) (branch wideComment pure plain) (always-small i) (found-or (SmallOpening
-      (length s)) s i (wideComment s i) plain (wide-small i) (no-small (length s)))) e
+      let not-always = found-or (SmallOpening (length s)) s i (wideComment s i) plain (wide-small i) (no-small (length s)) in
+      found-is (SmallOpening (length s)) _ (found-or (SmallOpening (length s)) s i (always s i) (branch wideComment pure plain) (always-small i) not-always) e
 
 -- the comment that wins
 pub wins-small : (n : ℕ) (c wide : Comment) → Small n c → Small n wide → Small n (wins c wide)

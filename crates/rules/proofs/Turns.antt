@@ -147,15 +147,18 @@ module _ (m : Manner) (s : List ℕ) (i : ℕ) where
     unfolding piece more goesOn
     comma-piece {j} e =
         let n = must (itemFrom m (listed k)) in
-        rw e (ap (λ (r : Read (Placed × Stage)). follow s i r items (map inr (end (After k)))) (sure-or s i (n s j) (colon m k or afterBlank (itemFrom m (following k)))
-        (must-sure s j (itemFrom m (listed k)))) ∙ sure-then s i j inl (n s j) (map inr (end (After k))) (must-sure s j (itemFrom m (listed k))))
+        let sure = must-sure s j (itemFrom m (listed k)) in
+        let no-other = sure-or s i (n s j) (colon m k or afterBlank (itemFrom m (following k))) sure in
+        let no-end = sure-then s i j inl (n s j) (map inr (end (After k))) sure in
+        rw e (ap (λ (r : Read (Placed × Stage)). follow s i r items (map inr (end (After k)))) no-other ∙ no-end)
 
     pub wide-piece : {j : ℕ} → comma s i ≡ none → colonSign k s i ≡ got tt j → piece m (After k) s i ≡ map inl (afterColon m) s j
     unfolding piece more goesOn colon
     wide-piece {j} c e =
-        rw (c, e) (ap (λ (r : Read (Placed × Stage)). follow s i r items (map inr (end (After k)))) (sure-or s i (afterColon m s j) (afterBlank (itemFrom m
-        (following k))) (must-sure s j (afterBlank (itemFrom m small))))
-        ∙ sure-then s i j inl (afterColon m s j) (map inr (end (After k))) (must-sure s j (afterBlank (itemFrom m small))))
+        let sure = must-sure s j (afterBlank (itemFrom m small)) in
+        let no-other = sure-or s i (afterColon m s j) (afterBlank (itemFrom m (following k))) sure in
+        let no-end = sure-then s i j inl (afterColon m s j) (map inr (end (After k))) sure in
+        rw (c, e) (ap (λ (r : Read (Placed × Stage)). follow s i r items (map inr (end (After k)))) no-other ∙ no-end)
 
     -- neither a comma nor a colon
     after-end : map inr (end (After k)) s i ≡ branch (afterBlank modifier) ends (map inr (plainEnd (After k))) s i

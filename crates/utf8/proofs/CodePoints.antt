@@ -220,13 +220,13 @@ module _ (s : List ℕ) (lo hi : ℕ) (h : 0 < length s) (l : 0x80 ≤ lo) (k : 
       let a₀ : 0xE0 + v / 4096 ≡ getD s 0 0 = omega arith in
       let a₁ : sixBits (v / 64) ≡ getD s 1 0 = omega arith in
       let a₂ : sixBits v ≡ getD s 2 0 = omega arith in
+      let from-second = drop-cons s 1 0 (o .first .inside) ∙ ap (λ (t : List ℕ). getD s 1 0 ∷ t) (drop-cons s 2 0 (o .second .inside)) in
       record {
         value = v;
         whole = record { top = omega arith; whole = w };
         rest = drop 3 s;
         is =
-            rw (b, a₀, a₁, a₂) (drop-cons s 0 0 h ∙ ap (λ (t : List ℕ). getD s 0 0 ∷ t) (drop-cons s 1 0 (o .first .inside)
-            ∙ ap (λ (t : List ℕ). getD s 1 0 ∷ t) (drop-cons s 2 0 (o .second .inside))));
+            rw (b, a₀, a₁, a₂) (drop-cons s 0 0 h ∙ ap (λ (t : List ℕ). getD s 0 0 ∷ t) from-second);
         ends = rw b (o .second .next);
       }
 
@@ -238,15 +238,13 @@ module _ (s : List ℕ) (lo hi : ℕ) (h : 0 < length s) (l : 0x80 ≤ lo) (k : 
       let a₁ : sixBits (v / 4096) ≡ getD s 1 0 = omega arith in
       let a₂ : sixBits (v / 64) ≡ getD s 2 0 = omega arith in
       let a₃ : sixBits v ≡ getD s 3 0 = omega arith in
+      let from-third = drop-cons s 2 0 (o .others .first .inside) ∙ ap (λ (t : List ℕ). getD s 2 0 ∷ t) (drop-cons s 3 0 (o .others .second .inside)) in
+      let from-second = drop-cons s 1 0 (o .first .inside) ∙ ap (λ (t : List ℕ). getD s 1 0 ∷ t) from-third in
       record {
         value = v;
         whole = record { top = w; whole = λ _. omega arith };
         rest = drop 4 s;
-        is =
-            rw (b, a₀, a₁, a₂, a₃)
-            (drop-cons s 0 0 h ∙ ap (λ (t : List ℕ). getD s 0 0 ∷ t)
-            (drop-cons s 1 0 (o .first .inside) ∙ ap (λ (t : List ℕ). getD s 1 0 ∷ t)
-            (drop-cons s 2 0 (o .others .first .inside) ∙ ap (λ (t : List ℕ). getD s 2 0 ∷ t) (drop-cons s 3 0 (o .others .second .inside)))));
+        is = rw (b, a₀, a₁, a₂, a₃) (drop-cons s 0 0 h ∙ ap (λ (t : List ℕ). getD s 0 0 ∷ t) from-second);
         ends = rw b (o .others .second .next);
       }
 

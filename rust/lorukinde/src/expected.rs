@@ -1,8 +1,8 @@
 //! What was completed last before the place where reading could not go on, and so what may stand there.
 //!
 //! The reader itself tells: up to what was completed last the text is one that it accepts, and the last record says what that was.
-use crate::entry::{Kind, Meaning};
 use crate::manner::Manner;
+use crate::meaning::{Kind, Meaning};
 use crate::names::STATES;
 use crate::read_sheet_in;
 use crate::record::Record;
@@ -64,15 +64,15 @@ pub(crate) fn stage(manner: Manner, text: &[u8], place: usize) -> Option<Stage> 
 fn completed(manner: Manner, text: &[u8]) -> Option<Stage> {
     let mut table = vec![Record::EMPTY; text.len()];
     let reading = read_sheet_in(manner.shapes(), text, &mut table).ok()?;
-    let entry = reading.entries().last()?;
-    let last = match entry.meaning.kind() {
+    let placed = reading.placed().last()?;
+    let last = match placed.meaning.kind() {
         _ if text.ends_with(b"\"") => Last::Note,
         _ if ends_with_state(text) => Last::State,
         Kind::NoItem => Last::Always,
         kind => Last::Item(kind),
     };
-    let meaning = Some(entry.meaning).filter(|meaning| meaning.kind() != Kind::NoItem);
-    Some(Stage { last, done: text.len(), item: entry.place, meaning })
+    let meaning = Some(placed.meaning).filter(|meaning| meaning.kind() != Kind::NoItem);
+    Some(Stage { last, done: text.len(), item: placed.place, meaning })
 }
 
 fn ends_with_state(text: &[u8]) -> bool {

@@ -1,6 +1,6 @@
 //! Which sentence of the house profile a part breaks.
-use crate::entry::{Head, Meaning, Separator, Span, Time, MIDNIGHT};
 use crate::manner::Manner;
+use crate::meaning::{Head, Meaning, Separator, Span, Time, MIDNIGHT};
 use crate::read_sheet_in;
 use crate::record::Record;
 use crate::slips::Spot;
@@ -10,8 +10,8 @@ pub(crate) fn wrong(spot: &Spot<'_>) -> String {
     let mut table = vec![Record::EMPTY; spot.text.len()];
     let mut latest = 0; // when the spans of the rule so far end
     if let Ok(reading) = read_sheet_in(Manner::Edition1, spot.text, &mut table) {
-        for entry in reading.entries() {
-            let broken = match entry.meaning {
+        for placed in reading.placed() {
+            let broken = match placed.meaning {
                 Meaning::Head(head) => {
                     latest = 0;
                     separator(&head)
@@ -19,7 +19,7 @@ pub(crate) fn wrong(spot: &Spot<'_>) -> String {
                 Meaning::Span(span) => form(&span).or_else(|| order(&span, &mut latest)),
                 _ => None,
             };
-            if let Some(broken) = broken.filter(|_| entry.place == spot.place) {
+            if let Some(broken) = broken.filter(|_| placed.place == spot.place) {
                 return broken;
             }
         }

@@ -15,14 +15,13 @@
 //! sheets at once, one a line. These read by edition 1 of the sheet rules; [`parts_in`], [`read_sheet_in`] and [`read_part_in`]
 //! in the [`Manner`] that they are given: edition 1, edition 2, or the house profile.
 //! [`explain`] says why a part is refused and what to write instead.
-//! The records' words, in [`Entry`], and the refusals' numbers, in [`Refusal`], are those of `include/lorukinde.h`.
+//! The records' words, in [`Placed`], and the refusals' numbers, in [`Refusal`], are those of `include/lorukinde.h`.
 #![warn(missing_debug_implementations)]
 #![deny(unsafe_code)]
 
 #[allow(unsafe_code)]
 mod calls;
 mod empty;
-mod entry;
 mod expected;
 mod explain;
 mod feed;
@@ -30,6 +29,7 @@ mod foreign;
 mod found;
 mod house;
 mod manner;
+mod meaning;
 mod names;
 mod parts;
 mod place;
@@ -43,13 +43,13 @@ mod words;
 
 use std::borrow::Cow;
 
-pub use entry::{
-    Date, Dates, Day, Entry, Event, Head, Holiday, HolidayKind, Meaning, Month, Months, Separator, Span, State, Steps, Time,
-    ToWeekday, Weekday, Weekdays,
-};
 pub use explain::{explain, Explanation};
 pub use feed::{read_feed, Feed, Line, LineAnswer, Lines};
 pub use manner::Manner;
+pub use meaning::{
+    Date, Dates, Day, Event, Head, Holiday, HolidayKind, Meaning, Month, Months, Placed, Separator, Span, State, Steps, Time,
+    ToWeekday, Weekday, Weekdays,
+};
 pub use names::{unusual_names, UnusualName};
 pub use parts::{parts, parts_in, Part, Parts};
 pub use place::{characters, shown, Character, Characters, Position};

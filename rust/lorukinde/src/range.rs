@@ -1,9 +1,9 @@
 //! Which number of an item is out of range, and what its range is.
 use std::ops::Range;
 
-use crate::entry::Kind;
 use crate::expected::Last;
 use crate::manner::Manner;
+use crate::meaning::Kind;
 use crate::names::MONTHS;
 use crate::read_sheet_in;
 use crate::record::Record;

@@ -1,7 +1,7 @@
 //! An accepted sheet or part: its records, and its rules.
 use std::borrow::Cow;
 
-use crate::entry::{Entry, Head, Meaning};
+use crate::meaning::{Head, Meaning, Placed};
 use crate::note;
 use crate::record::Record;
 
@@ -20,8 +20,8 @@ impl Reading<'_> {
     }
 
     /// The records one by one, as what they mean.
-    pub fn entries(&self) -> impl Iterator<Item = Entry> + '_ {
-        self.records.iter().map(Record::entry)
+    pub fn placed(&self) -> impl Iterator<Item = Placed> + '_ {
+        self.records.iter().map(Record::placed)
     }
 
     /// The rules in the order of the sheet.
@@ -46,8 +46,8 @@ pub struct Rule<'a> {
 
 impl<'a> Rule<'a> {
     /// The items as what they mean. A rule without items applies always.
-    pub fn items(&self) -> impl Iterator<Item = Entry> + 'a {
-        self.items.iter().map(Record::entry)
+    pub fn items(&self) -> impl Iterator<Item = Placed> + 'a {
+        self.items.iter().map(Record::placed)
     }
 
     /// The items' records.
@@ -82,8 +82,8 @@ impl<'a> Iterator for Rules<'a> {
     fn next(&mut self) -> Option<Rule<'a>> {
         let (first, rest) = self.records.split_first()?;
         // In a reading a head always stands here, and its items after it.
-        let (place, head) = match first.entry() {
-            Entry { place, meaning: Meaning::Head(head) } => (place, head),
+        let (place, head) = match first.placed() {
+            Placed { place, meaning: Meaning::Head(head) } => (place, head),
             _ => return None,
         };
         let count = usize::try_from(head.items).unwrap_or(0).min(rest.len());

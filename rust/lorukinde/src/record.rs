@@ -2,7 +2,7 @@
 use std::fmt;
 
 /// A record: 16 words of 32 bits, signed, kept as the 64 little-endian bytes that the library writes, so that the words are
-/// right whatever the byte order of the machine. [`Record::entry`] says what they mean.
+/// right whatever the byte order of the machine. [`Record::placed`] says what they mean.
 #[derive(Clone, Copy, PartialEq, Eq, Hash)]
 #[repr(transparent)]
 pub struct Record([u8; 64]);

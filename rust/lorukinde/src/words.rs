@@ -1,9 +1,9 @@
 //! What is read, in plain words.
 use std::fmt;
 
-use crate::entry::{
-    Date, Dates, Day, Entry, Event, Holiday, HolidayKind, Meaning, Month, Months, Separator, Span, State, Steps, Time, ToWeekday,
-    Weekday, Weekdays, MIDNIGHT,
+use crate::meaning::{
+    Date, Dates, Day, Event, Holiday, HolidayKind, Meaning, Month, Months, Placed, Separator, Span, State, Steps, Time,
+    ToWeekday, Weekday, Weekdays, MIDNIGHT,
 };
 use crate::reading::Rule;
 
@@ -215,7 +215,7 @@ impl fmt::Display for Span {
     }
 }
 
-impl fmt::Display for Entry {
+impl fmt::Display for Placed {
     fn fmt(&self, f: &mut fmt::Formatter<'_>) -> fmt::Result {
         write!(f, "{}", self.meaning)
     }

@@ -160,8 +160,8 @@ fn rules_and_items() {
         [(Separator::Normal, State::Closed, 4), (Separator::Additional, State::Open, 0), (Separator::Fallback, State::Closed, 0)]
     );
     assert_eq!(rules.iter().map(|rule| 1 + rule.records().len()).sum::<usize>(), reading.records().len());
-    assert_eq!(reading.entries().filter(|entry| matches!(entry.meaning, Meaning::Head(_))).count(), 3);
-    assert_eq!(reading.entries().filter(|entry| matches!(entry.meaning, Meaning::Raw(_))).count(), 0);
+    assert_eq!(reading.placed().filter(|placed| matches!(placed.meaning, Meaning::Head(_))).count(), 3);
+    assert_eq!(reading.placed().filter(|placed| matches!(placed.meaning, Meaning::Raw(_))).count(), 0);
 }
 
 #[test]
@@ -169,7 +169,7 @@ fn items_know_their_places() {
     let sheet = b" 2020 Jan,Feb 3 week  7 Mo,PH (sunset-1:00)+ ;  24/7 || 2021 2022 Mar";
     let mut table = marked(16);
     let reading = read_sheet(sheet, &mut table).unwrap();
-    assert_eq!(reading.entries().map(|entry| entry.place).collect::<Vec<_>>(), [1, 1, 10, 22, 24, 27, 30, 48, 56, 56, 61]);
+    assert_eq!(reading.placed().map(|placed| placed.place).collect::<Vec<_>>(), [1, 1, 10, 22, 24, 27, 30, 48, 56, 56, 61]);
     let rules: Vec<_> =
         reading.rules().map(|rule| (rule.place, rule.items().map(|item| item.place).collect::<Vec<_>>())).collect();
     assert_eq!(rules, [(1, vec![1, 10, 22, 24, 27, 30]), (48, vec![]), (56, vec![56, 61])]);
@@ -177,7 +177,7 @@ fn items_know_their_places() {
     // In a part they count from the sheet's first byte.
     let mut table = marked(16);
     let part = read_part(sheet, 46, &mut table);
-    assert_eq!(part.reading.unwrap().entries().map(|entry| entry.place).collect::<Vec<_>>(), [48, 56, 56, 61]);
+    assert_eq!(part.reading.unwrap().placed().map(|placed| placed.place).collect::<Vec<_>>(), [48, 56, 56, 61]);
 }
 
 /// The calls for C that take an edition's number: 1 is the calls without one, an edition that there is not is refused.
@@ -210,7 +210,7 @@ fn editions() {
     let words_of: Vec<_> = reading.records().iter().map(Record::words).collect();
     let (first, second) = (words([1, 0, 0, 0, 0, 1]), at(6, words([1, 0, 0, 0, 0, 1])));
     assert_eq!(words_of, [first, words([8, 0, 600, 0, 600, -1, 0, 1]), second, at(6, words([6, 1, 5, 1, 1, 0]))]);
-    assert!(matches!(reading.entries().nth(1).unwrap().meaning, Meaning::Span(span) if span.is_point && span.start == span.end));
+    assert!(matches!(reading.placed().nth(1).unwrap().meaning, Meaning::Span(span) if span.is_point && span.start == span.end));
     assert!(parts_in(Manner::Edition2, sheet).all(|part| part.reading.is_ok()));
 }
 
@@ -294,7 +294,7 @@ fn refusals_in_plain_words() {
     assert!(error.to_string().contains("run backwards"));
 }
 
-/// Any words at all have an entry and can be shown; those that no reading writes come back as they are.
+/// Any words at all have a meaning and can be shown; those that no reading writes come back as they are.
 #[test]
 fn any_words_can_be_decoded() {
     let odd = [i32::MIN, -8, -1, 0, 1, 3, 8, 13, 32, 256, 2880, i32::MAX];
@@ -304,16 +304,16 @@ fn any_words_can_be_decoded() {
                 let mut all = [*a; 16];
                 all[0] = kind;
                 all.iter_mut().skip(2).step_by(2).for_each(|word| *word = *b);
-                let entry = Record::from_words(all).entry();
-                assert!(!entry.to_string().is_empty());
-                assert!(matches!(entry.meaning, Meaning::Raw(same) if same == all) || (1..=8).contains(&kind));
-                assert!(all[15] >= 0 || entry.meaning == Meaning::Raw(all));
+                let placed = Record::from_words(all).placed();
+                assert!(!placed.to_string().is_empty());
+                assert!(matches!(placed.meaning, Meaning::Raw(same) if same == all) || (1..=8).contains(&kind));
+                assert!(all[15] >= 0 || placed.meaning == Meaning::Raw(all));
             }
         }
     }
     let late = words([8, 0, i32::MAX, 0, i32::MAX, -1, 0]);
-    assert_eq!(Record::from_words(late).entry().meaning, Meaning::Raw(late));
-    assert_eq!(Record::default().entry().meaning, Meaning::Raw([0; 16]));
+    assert_eq!(Record::from_words(late).placed().meaning, Meaning::Raw(late));
+    assert_eq!(Record::default().placed().meaning, Meaning::Raw([0; 16]));
     assert_eq!(std::mem::size_of::<Record>(), 64);
 }
 

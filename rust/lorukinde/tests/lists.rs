@@ -100,7 +100,7 @@ type SaidRule = (usize, Separator, State, Option<Vec<u8>>, Vec<[i32; 16]>);
 /// An item's words, its place counted from `begin`.
 fn from_begin(record: &Record, begin: usize) -> [i32; 16] {
     let words = record.words();
-    common::at(record.entry().place - begin, words)
+    common::at(record.placed().place - begin, words)
 }
 
 /// All that a part's reading says, with places counted from the part's beginning and comments instead of their places.
@@ -270,7 +270,7 @@ fn parts_make_the_sheet() {
         assert_eq!(whole.clone().map(|r| (r.records().to_vec(), r.warnings())), together, "{sheet:?}");
         if let Ok(whole) = whole {
             accepted += 1;
-            assert!(whole.entries().all(|entry| !matches!(entry.meaning, Meaning::Raw(_))), "{sheet:?}");
+            assert!(whole.placed().all(|placed| !matches!(placed.meaning, Meaning::Raw(_))), "{sheet:?}");
             assert!(whole.rules().all(|rule| !rule.to_string().is_empty()));
         }
     }

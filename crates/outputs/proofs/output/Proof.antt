@@ -1,10 +1,8 @@
 use borrow.Author.Needs.{needs}
-use Prim.Native.Nat.{_*_, _≤_}
-use mathlib.Core.List.{_++_}
-use mathlib.Core.Path.{_≡_, refl, ap, _∙_}
+use Prim.Native.Nat.{_≤_}
+use mathlib.Core.Path.{refl}
 use native.Mathlib.Omega.{arith}
 use denote.Ref.{now}
-use lib.ListN.{length}
 use Rattle.prints.specs.Lines.{line, lines}
 use Rattle.prints.proofs.Writing.{then}
 use Rattle.outputs.specs.Outputs.{numbersOf, outputOf, longest}
@@ -21,20 +19,19 @@ output-spec =
     (λ c κs. search needs)  -- read-sheet-requires
     (λ c κs. search needs)  -- put-answer-requires
     (λ c. search needs)  -- slice-aggregate-put-records
-    (λ c κs. let r = c .before .before .before .before .before .before .before in
-    omega (arith, few-records _ _ refl (r .read-sheet .ensures), c .before .before .before .before .before .before .table2 .given))  -- put-records-requires
+    (λ c κs. let filled = c .before .before .before .before .before .before in
+    omega (arith, few-records _ _ refl (filled .before .read-sheet .ensures), filled .table2 .given))  -- put-records-requires
     (λ c. search needs)  -- same-length
-    (λ c. let p = c .before .before in
-    let w = p .before .before .before .before .before in
-    let r = w .before .before .before in
-    let s = r .before .before .before .before in
-    let a = s .args in
-    let few = few-records (now (a .sheet)) _ refl (r .read-sheet .ensures) in
-    let most : p .put-records .result .at ≤ longest = omega (arith, few, w .put-answer .ensures .0, p .put-records .ensures .0) in (
-      most,
-      all-counted (outputOf (now (a .sheet))) (now (a .out))
-          (rw (output-lines (now (a .sheet)) _ refl (r .read-sheet .ensures)) at
-          (then (line (numbersOf (r .read-sheet .result))) (lines (recordsIn (r .read-sheet .result .records) (r .read-sheet .last .1 .0))) 0 (now (a .out)) (omega
-          (arith, s .good .1 .0 .0)) (w .put-answer .ensures .1) (p .put-records .ensures .1)))
-          most,
-    )))  -- returns
+    (λ c.
+    let records-put = c .before .before in
+    let answer-put = records-put .before .before .before .before .before in
+    let read = answer-put .before .before .before in
+    let start = read .before .before .before .before in
+    let sheet = now (start .args .sheet) in
+    let out = now (start .args .out) in
+    let answer = line (numbersOf (read .read-sheet .result)) in
+    let records = lines (recordsIn (read .read-sheet .result .records) (read .read-sheet .last .1 .0)) in
+    let few = few-records sheet _ refl (read .read-sheet .ensures) in
+    let most : records-put .put-records .result .at ≤ longest = omega (arith, few, answer-put .put-answer .ensures .0, records-put .put-records .ensures .0) in
+    let both = then answer records 0 out (omega (arith, start .good .1 .0 .0)) (answer-put .put-answer .ensures .1) (records-put .put-records .ensures .1) in
+    (most, all-counted (outputOf sheet) out (rw (output-lines sheet _ refl (read .read-sheet .ensures)) at both) most)))  -- returns

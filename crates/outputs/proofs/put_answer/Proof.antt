@@ -21,20 +21,23 @@ put-answer-spec =
     (λ c κs. search needs)  -- put-ended-requires-3
     (λ c κs. search needs)  -- put-ended-requires-4
     (λ c. search needs)  -- same-length
-    (λ c. let w = c .before .before in
-    let r = w .before .before .before .before in
-    let p = r .before .before .before .before in
-    let n = p .before .before .before .before in
-    let s = n .before .before .before .before in
-    let a = s .args .a in
+    (λ c.
+    let warnings-put = c .before .before in
+    let records-put = warnings-put .before .before .before .before in
+    let place-put = records-put .before .before .before .before in
+    let number-put = place-put .before .before .before .before in
+    let start = number-put .before .before .before .before in
+    let a = start .args .a in
     let number = ended (a .number) (code " ") in
     let place = ended (a .place) (code " ") in
     let records = ended (a .records) (code " ") in
-    let at = s .args .pen .at in
-    let out = now (s .args .out) in
-    let fits : length out ≤ largest = omega (arith, s .good .1 .0 .0) in
-    let two = then number place at out fits (n .put-ended .ensures .1) (p .put-ended2 .ensures .1) in
-    let three = then (number ++ place) records at out fits two (r .put-ended3 .ensures .1) in (
-      omega (arith, n .put-ended .ensures .0, p .put-ended2 .ensures .0, r .put-ended3 .ensures .0, w .put-ended4 .ensures .0),
-      rw (← answer-line a) (then ((number ++ place) ++ records) (ended (a .warnings) (code "\n")) at out fits three (w .put-ended4 .ensures .1)),
+    let warnings = ended (a .warnings) (code "\n") in
+    let at = start .args .pen .at in
+    let out = now (start .args .out) in
+    let fits : length out ≤ largest = omega (arith, start .good .1 .0 .0) in
+    let two = then number place at out fits (number-put .put-ended .ensures .1) (place-put .put-ended2 .ensures .1) in
+    let three = then (number ++ place) records at out fits two (records-put .put-ended3 .ensures .1) in
+    let four = then ((number ++ place) ++ records) warnings at out fits three (warnings-put .put-ended4 .ensures .1) in (
+      omega (arith, number-put .put-ended .ensures .0, place-put .put-ended2 .ensures .0, records-put .put-ended3 .ensures .0, warnings-put .put-ended4 .ensures .0),
+      rw (← answer-line a) four,
     )))  -- returns

@@ -36,16 +36,18 @@ put-records-spec =
     (λ c κs. search needs)  -- put-line-requires
     (λ c. search needs)  -- add-k
     (λ c. search needs)  -- loop-less
-    (λ c. let p = c .before .before in
-    let l = p .before .before .before .before in
+    (λ c.
+    let line-put = c .before .before in
+    let l = line-put .before .before .before .before in
     let t = now (l .before .before .args .table) in
     let n = l .before .before .args .n in
     let k = l .loop .k in
-    let e : (k * 16 + 16) - k * 16 ≡ 16 = omega arith in (
+    let e : (k * 16 + 16) - k * 16 ≡ 16 = omega arith in
+    let this = line (take 16 (drop (k * 16) t)) in
+    let later = lines (recordsIn (n - (k + 1)) (drop ((k + 1) * 16) t)) in (
       search needs,
-      omega (arith, l .loop .inv .1, rw e at (p .put-line .ensures .0), length-take 16 (drop (k * 16) t)),
-      less-left (line (take 16 (drop (k * 16) t))) (lines (recordsIn (n - (k + 1)) (drop ((k + 1) * 16) t))) (search needs) (l .loop .inv .2) (lines-more t n k
-          (search needs)) (rw e at (p .put-line .ensures .1)),
+      omega (arith, l .loop .inv .1, rw e at (line-put .put-line .ensures .0), length-take 16 (drop (k * 16) t)),
+      less-left this later (search needs) (l .loop .inv .2) (lines-more t n k (search needs)) (rw e at (line-put .put-line .ensures .1)),
     ))  -- loop-again
     (λ c. search needs)  -- same-length
     (λ c. let l = c .before in

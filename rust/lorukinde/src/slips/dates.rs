@@ -1,8 +1,8 @@
 //! Dates as people write them, `25.12.2020`, `2020-12-25`, `25. Dezember`, and years after the day.
 use super::{signs, Hint, Spot};
-use crate::entry::{Dates, Day, Kind, Meaning};
 use crate::expected::Last;
 use crate::foreign;
+use crate::meaning::{Dates, Day, Kind, Meaning};
 use crate::names::MONTHS;
 use crate::scan::{Scan, SHORT_DIGITS, YEAR_DIGITS};
 

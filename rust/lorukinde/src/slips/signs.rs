@@ -1,8 +1,8 @@
 //! Signs and blanks: long dashes, blanks round `-`, a sign too many, and one that is missing.
 use super::{Hint, Spot};
-use crate::entry::Kind;
 use crate::expected::Last;
 use crate::found::named;
+use crate::meaning::Kind;
 use crate::names::STATES;
 use crate::place::Character;
 use crate::scan::Scan;

@@ -1,7 +1,7 @@
 //! Times as people write them: `9-17`, `09.00-18.00`, `9am - 5pm`, `10:00 bis 12:00 Uhr`.
 use super::{signs, Hint, Spot};
-use crate::entry::Kind;
 use crate::expected::Last;
+use crate::meaning::Kind;
 use crate::names::MONTHS;
 use crate::scan::{Scan, SHORT_DIGITS};
 

@@ -1,8 +1,8 @@
 //! Names written in full, in another language, or with capitals that they do not take.
 use super::{times, Hint, Spot};
-use crate::entry::{Kind, Month, Weekday};
 use crate::expected::Last;
 use crate::foreign;
+use crate::meaning::{Kind, Month, Weekday};
 use crate::names::{MONTHS, WEEKDAYS};
 use crate::scan::{Scan, COUNT_DIGITS};
 

@@ -201,7 +201,7 @@ fn json_of_a_list() {
             assert_eq!(said["number"], number(refusal.map_or(0, |refusal| refusal.number as usize)));
             assert_eq!(said["place"], number(refusal.map_or(0, |refusal| refusal.place)));
             if let Ok(reading) = &part.reading {
-                let places: Vec<Json> = reading.entries().map(|entry| number(entry.place)).collect();
+                let places: Vec<Json> = reading.placed().map(|placed| number(placed.place)).collect();
                 assert_eq!(places_of(&said["rules"]), places);
                 assert_eq!(said["unusual"].list().len(), reading.warnings() as usize);
             }

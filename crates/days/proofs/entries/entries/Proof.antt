@@ -1,5 +1,6 @@
 use borrow.Author.Needs.{needs}
-use Prim.Native.Nat.{_-_}
+use Prim.Native.Nat.{ℕ, _-_}
+use mathlib.Core.List.{List}
 use mathlib.Core.Path.{_≡_, refl, ap, _∙_}
 use native.Mathlib.Omega.{arith}
 use denote.Ref.{now}
@@ -23,11 +24,28 @@ Inv-loop s marks₀ at₀ marks at = map (markedAll marks₀) (many nextEntry) s
 abbrev μ-loop : tie.MeasureT-loop
 μ-loop s marks₀ at₀ marks at = length s - at
 
+-- what stands there: a first entry or none, one more or no more
 abbrev first : tie.After-first Inv-loop μ-loop → Said Entry
 first c = said (c .before .before .entry .ensures) (ap seenEntry (c .first .given .1))
 
+abbrev no-first : tie.After-enum-told Inv-loop μ-loop → Said Entry
+no-first c = said (c .before .before .entry .ensures) (ap seenEntry (c .enum-told .given .1))
+
 abbrev more : tie.After-more Inv-loop μ-loop → Said Entry
 more c = said (c .before .before .next-entry .ensures) (ap seenEntry (c .more .given .1))
+
+abbrev no-more : tie.After-enum-told2 Inv-loop μ-loop → Said Entry
+no-more c = said (c .before .before .next-entry .ensures) (ap seenEntry (c .enum-told2 .given .1))
+
+-- where the loop stands; the text, and where its entries begin
+abbrev Loop : Type 0
+Loop = tie.At-loop Inv-loop μ-loop
+
+abbrev text : Loop → List ℕ
+text l = now (l .before .before .before .before .before .before .before .before .args .s)
+
+abbrev begin : Loop → ℕ
+begin l = l .before .before .before .before .before .before .before .before .args .c .at
 
 pub entries-spec : {M : Type 1} → statement M
 entries-spec =
@@ -38,19 +56,19 @@ entries-spec =
     (λ c κs. search needs)  -- entry-requires
     (λ c. search needs)  -- enum-known-first
     (λ c. search needs)  -- enum-told
-    (λ c. marked-none _ _ (said (c .before .before .entry .ensures) (ap seenEntry (c .enum-told .given .1)) .is))  -- returns
+    (λ c. marked-none _ _ (no-first c .is))  -- returns
     (λ c κs. search needs)  -- no-marks-requires
     (λ c κs. search needs)  -- marked-requires
     (λ c. refl)  -- loop-holds
     (λ c κs. search needs)  -- next-entry-requires
     (λ c. search needs)  -- enum-known-more
     (λ c. search needs)  -- enum-told-2
-    (λ c. let l = c .before .before .before in let a = l .before .before .before .before .before .before .before .before .args in
-    marked-first (now (a .s)) (a .c .at) (first (l .before .before .before .before) .is) (l .before .before .no-marks .ensures) (l .before .marked .ensures)
-    ∙ l .loop .inv ∙ marked-done (now (a .s)) (l .loop .at) (l .loop .marks) (said (c .before .before .next-entry .ensures) (ap seenEntry
-    (c .enum-told2 .given .1)) .is))  -- returns-2
+    (λ c.
+    let l : Loop = c .before .before .before in
+    marked-first (text l) (begin l) (first (l .before .before .before .before) .is) (l .before .before .no-marks .ensures) (l .before .marked .ensures)
+    ∙ l .loop .inv ∙ marked-done (text l) (l .loop .at) (l .loop .marks) (no-more c .is))  -- returns-2
     (λ c κs. search needs)  -- marked-requires-2
     (λ c. let w = more (c .before .before) in omega (arith, past-one nextEntry-alike (w .is)))  -- loop-less
-    (λ c. let l = c .before .before .before .before .before in let w = more (c .before .before) in
-    let a = l .before .before .before .before .before .before .before .before .args in
-    l .loop .inv ∙ marked-more (now (a .s)) (l .loop .at) (l .loop .marks) (w .is) (c .marked2 .ensures)))  -- loop-again
+    (λ c.
+    let l : Loop = c .before .before .before .before .before in
+    l .loop .inv ∙ marked-more (text l) (l .loop .at) (l .loop .marks) (more (c .before .before) .is) (c .marked2 .ensures)))  -- loop-again

@@ -21,6 +21,10 @@ line-into-spec =
     (λ c κs. search needs)  -- sheet-into-requires
     (λ c. search needs)  -- same-length
     (λ c. search needs)  -- same-length-2
-    (λ c. let r = c .before .before .before in let g = r .before .before .before in let f = g .before in let a = f .before .before .before .args in
-    line-from (now (a .words)) (now (a .bytes)) (a .slot) (f .free-from .result) (g .free-from2 .result) (sheetOf (now (a .line)) (a .size)) (f .free-from .ensures)
-    (g .free-from2 .ensures) (r .sheet-into .ensures)))  -- returns
+    (λ c.
+    let read = c .before .before .before in
+    let free-bytes = read .before .before .before in
+    let free-words = free-bytes .before in
+    let a = free-words .before .before .before .args in
+    line-from (now (a .words)) (now (a .bytes)) (a .slot) (free-words .free-from .result) (free-bytes .free-from2 .result) (sheetOf (now (a .line)) (a .size))
+    (free-words .free-from .ensures) (free-bytes .free-from2 .ensures) (read .sheet-into .ensures)))  -- returns

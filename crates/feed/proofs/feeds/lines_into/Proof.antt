@@ -1,7 +1,8 @@
 -- Line by line.
 use borrow.Author.Needs.{needs}
-use Prim.Native.Nat.{_*_, _-_, _≤_}
+use Prim.Native.Nat.{ℕ, _*_, _-_, _≤_}
 use native.Mathlib.Omega.{arith}
+use mathlib.Core.List.{List}
 use mathlib.Core.Path.{_≡_, refl, sym, _∙_}
 use denote.Ref.{now}
 use lib.ListN.{length, drop}
@@ -23,17 +24,52 @@ Inv-loop feed size answer-words₀ answer-bytes₀ words₀ bytes₀ n₀ record
 abbrev μ-loop : tie.MeasureT-loop
 μ-loop feed size answer-words₀ answer-bytes₀ words₀ bytes₀ n₀ records₀ at₀ answer-words answer-bytes words bytes n records at = length feed - at
 
+-- ---- the places of a turn: at the loop's test, after the line's end is found, after the line is read, after its answer is kept, after the next line's place is found
+
+abbrev Loop : Type 0
+Loop = tie.At-loop Inv-loop μ-loop
+
+abbrev End-found : Type 0
+End-found = tie.After-line-end Inv-loop μ-loop
+
+abbrev Line-read : Type 0
+Line-read = tie.After-line-into Inv-loop μ-loop
+
+abbrev Answer-kept : Type 0
+Answer-kept = tie.After-keep-answer Inv-loop μ-loop
+
+abbrev Next-found : Type 0
+Next-found = tie.After-after-line Inv-loop μ-loop
+
+-- from each back to the one before it
+abbrev loop : End-found → Loop
+loop c = c .before .before
+
+abbrev end-found : Line-read → End-found
+end-found c = c .before .before .before .before
+
+abbrev line-read : Answer-kept → Line-read
+line-read c = c .before .before .before .before .before .before
+
+abbrev answer-kept : Next-found → Answer-kept
+answer-kept c = c .before .before .before .before .before
+
+-- what is read, and for how many words
+abbrev text : Loop → List ℕ
+text l = now (l .before .before .before .before .args .feed)
+
+abbrev size : Loop → ℕ
+size l = l .before .before .before .before .args .size
+
+-- ---- what holds there
+
 -- to the next line
-next : (c : tie.After-after-line Inv-loop μ-loop) → let i = c .before .before .before .before .before .before .before .before .before .before .before .before .before .before .before in
-    Turn (now (i .before .before .before .before .before .before .args .feed)) (i .before .before .loop .at) (i .line-end .result) (c .after-line .result)
-next c =
-    let i = c .before .before .before .before .before .before .before .before .before .before .before .before .before .before .before in
-    turn _ _ (i .before .loop-test .taken) (i .line-end .ensures) (c .after-line .ensures)
+next : (c : Next-found) → let e = end-found (line-read (answer-kept c)) in Turn (text (loop e)) (loop e .loop .at) (e .line-end .result) (c .after-line .result)
+next c = let e = end-found (line-read (answer-kept c)) in turn _ _ (e .before .loop-test .taken) (e .line-end .ensures) (c .after-line .ensures)
 
 -- a line was read
-told-of : (c : tie.After-line-into Inv-loop μ-loop) → let l = c .before .before .before .before .before .before in
-    Told (l .loop .records) (l .before .before .before .before .args .size) (c .line-into .result)
-told-of c = let l = c .before .before .before .before .before .before in told _ (l .loop .records) (l .before .before .before .before .args .size) _ (l .loop .inv .2) (c .line-into .ensures)
+told-of : (c : Line-read) → let l = loop (end-found c) in Told (l .loop .records) (size l) (c .line-into .result)
+told-of c = let l = loop (end-found c) in told _ (l .loop .records) (size l) _ (l .loop .inv .2) (c .line-into .ensures)
 
 pub lines-into-spec : {M : Type 1} → statement M
 lines-into-spec =
@@ -45,28 +81,29 @@ lines-into-spec =
     (λ c κs. search needs)  -- line-end-requires
     (λ c. search needs)  -- sub-line-into
     (λ c. search needs)  -- part-line-into-start
-    (λ c. let l = c .before .before in omega (arith, c .line-end .ensures, end-fits (now (l .before .before .before .before .args .feed)) (l .loop .at) (l .loop .inv .1)))  -- part-line-into-end
+    (λ c. let l = loop c in omega (arith, c .line-end .ensures, end-fits (text l) (l .loop .at) (l .loop .inv .1)))  -- part-line-into-end
     (λ c. search needs)  -- mul-line-into
     (λ c. search needs)  -- sub-line-into-2
     (λ c κs. search needs)  -- line-into-requires
     (λ c κs. told-of (c .before .before .before .before .before) .small)  -- keep-answer-requires
     (λ c. search needs)  -- add-n
-    (λ c. let h = told-of (c .before .before .before .before .before .before .before .before .before .before) in omega arith)  -- add-records
+    (λ c. let h = told-of (line-read (c .before .before .before .before)) in omega arith)  -- add-records
     (λ c κs. search needs)  -- after-line-requires
     (λ c. let h = next c in omega arith)  -- loop-less
     (λ c.
-    let h = next c in
-    let k = c .before .before .before .before .before in
-    let i = k .before .before .before .before .before .before in
-    let l = i .before .before .before .before .before .before in (
+    let turned = next c in
+    let k = answer-kept c in
+    let r = line-read k in
+    let l = loop (end-found r) in
+    let so-far = l .loop .inv in (
       omega arith,
-      h .fits,
-      told-of i .room,
-      c .before .before .before .before .answer-words .given ∙ l .loop .inv .3,
-      c .before .before .before .answer-bytes .given ∙ l .loop .inv .4,
-      k .before .before .before .before .before .words .given ∙ l .loop .inv .5,
-      k .before .before .before .before .bytes .given ∙ l .loop .inv .6,
-      l .loop .inv .7 ∙ up-turn _ _ (l .loop .n) (l .loop .records) _ _ h (i .line-into .ensures) (k .keep-answer .ensures),
+      turned .fits,
+      told-of r .room,
+      c .before .before .before .before .answer-words .given ∙ so-far .3,
+      c .before .before .before .answer-bytes .given ∙ so-far .4,
+      k .before .before .before .before .before .words .given ∙ so-far .5,
+      k .before .before .before .before .bytes .given ∙ so-far .6,
+      so-far .7 ∙ up-turn _ _ (l .loop .n) (l .loop .records) _ _ turned (r .line-into .ensures) (k .keep-answer .ensures),
     ))  -- loop-again
     (λ c. c .before .loop .inv .3)  -- same-length
     (λ c. c .before .loop .inv .4)  -- same-length-2

@@ -20,6 +20,9 @@ read-feed-bytes-spec =
     (λ c κs. search needs)  -- feed-into-requires
     (λ c. search needs)  -- same-length
     (λ c. search needs)  -- same-length-2
-    (λ c. let r = c .before .before .before .before .before .before in let a = r .before .before .before .before .before .before .before .before .args in
-    let p = length (now (a .answers)) / 16 in let n = wordsIn (length (now (a .table))) in
-    in-bytes ([], now (a .answers)) ([], now (a .table)) (feedOf (now (a .feed)) p n) (r .feed-into .ensures) (feed-fits (now (a .feed)) p n)))  -- returns
+    (λ c.
+    let read = c .before .before .before .before .before .before in
+    let a = read .before .before .before .before .before .before .before .before .args in
+    let places = length (now (a .answers)) / 16 in
+    let size = wordsIn (length (now (a .table))) in
+    in-bytes ([], now (a .answers)) ([], now (a .table)) (feedOf (now (a .feed)) places size) (read .feed-into .ensures) (feed-fits (now (a .feed)) places size)))  -- returns

@@ -22,4 +22,11 @@ wanted-as-spec =
     (λ c. rw (c .before .match .keys3) (c .wish2 .ensures ∙ sym (event-wish _)))  -- returns-3
     (λ c. rw (c .before .match .keys4) (c .either2 .ensures ∙ sym (holiday-wish _)))  -- returns-4
     (λ c. rw (c .before .match .keys5) (c .wish3 .ensures ∙ sym (week-wish _)))  -- returns-5
-    (λ c. let r = c .match .rest in let d = r .0 .0 .0 .1 in sym (other-wish _ _ (r .0 .0 .0 .0 .1) (λ e. d (inl e)) (λ e. d (inr e)) (r .0 .0 .1) (r .0 .1) (r .1))))  -- returns-6
+    (λ c.
+    let rest = c .match .rest in
+    let no-weekday = rest .0 .0 .0 .0 .1 in
+    let no-date = rest .0 .0 .0 .1 in
+    let no-event = rest .0 .0 .1 in
+    let no-holiday = rest .0 .1 in
+    let no-week = rest .1 in
+    sym (other-wish _ _ no-weekday (λ e. no-date (inl e)) (λ e. no-date (inr e)) no-event no-holiday no-week)))  -- returns-6

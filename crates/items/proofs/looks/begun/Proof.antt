@@ -22,5 +22,11 @@ begun-spec =
     (λ c. rw (c .before .match .keys3) (c .event-item-after .ensures))  -- returns-3
     (λ c. rw (c .before .match .keys4) (c .holiday-item-after .ensures))  -- returns-4
     (λ c. rw (c .before .before .match .keys5, c .before .week-after-blank .ensures) (c .must .ensures))  -- returns-5
-    (λ c. let r = c .match .rest in let d = r .0 .0 .0 .1 in
-    rw (ne-eqb _ 1 (r .0 .0 .0 .0 .1), ne-eqb _ 2 (λ e. d (inl e)), ne-eqb _ 4 (λ e. d (inr e)), ne-eqb _ 3 (r .0 .0 .1), ne-eqb _ 6 (r .0 .1), ne-eqb _ 7 (r .1))))  -- returns-6
+    (λ c.
+    let rest = c .match .rest in
+    let no-weekday = rest .0 .0 .0 .0 .1 in
+    let no-date = rest .0 .0 .0 .1 in
+    let no-event = rest .0 .0 .1 in
+    let no-holiday = rest .0 .1 in
+    let no-week = rest .1 in
+    rw (ne-eqb _ 1 no-weekday, ne-eqb _ 2 (λ e. no-date (inl e)), ne-eqb _ 4 (λ e. no-date (inr e)), ne-eqb _ 3 no-event, ne-eqb _ 6 no-holiday, ne-eqb _ 7 no-week)))  -- returns-6

@@ -19,8 +19,13 @@ dated-spec =
     (λ c κs. search needs)  -- word-requires
     (λ c. search needs)  -- enum-known-name
     (λ c. search needs)  -- enum-told-2
-    (λ c. let b = c .before .before .before .before in
-    undated-name _ _ (b .before .before .before .before .pre) (blank b .is) (named (c .before .before .word .ensures) (c .enum-told2 .given .1) .is))  -- returns-2
+    (λ c.
+    let at-blank = c .before .before .before .before in
+    let no-name = named (c .before .before .word .ensures) (c .enum-told2 .given .1) in
+    undated-name _ _ (at-blank .before .before .before .before .pre) (blank at-blank .is) (no-name .is))  -- returns-2
     (λ c κs. search needs)  -- month-day-item-after-requires
-    (λ c. let n = c .before .before in let b = n .before .before .before .before in
-    dated-is _ _ (b .before .before .before .before .pre) (blank b .is) (named (n .before .before .word .ensures) (n .name .given .1) .is) ∙ c .month-day-item-after .ensures))  -- returns-3
+    (λ c.
+    let at-name = c .before .before in
+    let at-blank = at-name .before .before .before .before in
+    let the-name = named (at-name .before .before .word .ensures) (at-name .name .given .1) in
+    dated-is _ _ (at-blank .before .before .before .before .pre) (blank at-blank .is) (the-name .is) ∙ c .month-day-item-after .ensures))  -- returns-3

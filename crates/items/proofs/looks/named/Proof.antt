@@ -28,8 +28,10 @@ named-spec =
     (λ c κs. search needs)  -- place-of-requires
     (λ c. search needs)  -- enum-told-2
     (λ c. search needs)  -- enum-known-item-2
-    (λ c. let i = c .before .before in let b = i .before .before in
-    wished-item _ _ _ (start b .pre) _ (wish b) (b .begun .ensures ∙ ap seenItem (i .item .given .1)) ∙ rw (c .place-of .ensures))  -- returns-2
+    (λ c.
+    let found = c .before .before in
+    let read = found .before .before in
+    wished-item _ _ _ (start read .pre) _ (wish read) (read .begun .ensures ∙ ap seenItem (found .item .given .1)) ∙ rw (c .place-of .ensures))  -- returns-2
     (λ c. (
       wished-none _ _ _ (start (c .before .before) .pre) _ (wish (c .before .before)) (c .before .before .begun .ensures
           ∙ ap seenItem (c .enum-told2 .given .1)),

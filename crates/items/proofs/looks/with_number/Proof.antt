@@ -20,9 +20,16 @@ with-number-spec =
     (λ c κs. search needs)  -- has-requires
     (λ c κs. search needs)  -- week-item-requires
     (λ c κs. search needs)  -- found-requires
-    (λ c. let w = c .before in let h = w .before in let e = h .before .before in let d = e .before .before in
-    finds (c .found .result) (pick-after _ _ _ _ Times (WeekNumbers ∷ []) (d .time .result) (d .time .ensures) (e .enum-told .given .1))
-    (finds-one _ _ _ _ WeekNumbers (c .found .result) (sym (h .before .has .ensures) ∙ h .if1 .taken) (item-at _ _ (w .week-item .ensures)) (c .found .ensures)))  -- returns-2
-    (λ c. let e = c .before .before in let d = e .before .before in
-    pick-after _ _ _ _ Times (WeekNumbers ∷ []) (d .time .result) (d .time .ensures) (e .enum-told .given .1)
-    ∙ pick-not _ _ _ _ WeekNumbers (sym (c .before .has .ensures) ∙ c .if1 .left)))  -- returns-3
+    (λ c.
+    let wanted = c .before .before in
+    let no-time = wanted .before .before in
+    let searched = no-time .before .before in
+    let weeks-wanted = sym (wanted .before .has .ensures) ∙ wanted .if1 .taken in
+    finds (c .found .result) (pick-after _ _ _ _ Times (WeekNumbers ∷ []) (searched .time .result) (searched .time .ensures) (no-time .enum-told .given .1))
+    (finds-one _ _ _ _ WeekNumbers (c .found .result) weeks-wanted (item-at _ _ (c .before .week-item .ensures)) (c .found .ensures)))  -- returns-2
+    (λ c.
+    let no-time = c .before .before in
+    let searched = no-time .before .before in
+    let no-weeks-wanted = sym (c .before .has .ensures) ∙ c .if1 .left in
+    pick-after _ _ _ _ Times (WeekNumbers ∷ []) (searched .time .result) (searched .time .ensures) (no-time .enum-told .given .1)
+    ∙ pick-not _ _ _ _ WeekNumbers no-weeks-wanted))  -- returns-3

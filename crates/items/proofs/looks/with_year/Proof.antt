@@ -20,10 +20,17 @@ with-year-spec =
     (λ c κs. search needs)  -- has-requires
     (λ c κs. search needs)  -- year-item-after-requires
     (λ c κs. search needs)  -- found-requires
-    (λ c m. let w = c .before in let h = w .before in let e = h .before .before in let d = e .before .before in
-    finds (c .found .result) (pick-after _ _ _ _ MonthDays (Years ∷ []) (d .month-day .result) (d .month-day .ensures m) (e .enum-told .given .1))
-    (finds-one _ _ _ _ Years (c .found .result) (sym (h .before .has .ensures) ∙ h .if1 .taken) (item-at _ _ (year-item _ _ (d .before .before .pre)
-    ∙ w .year-item-after .ensures)) (c .found .ensures)))  -- returns-2
-    (λ c m. let e = c .before .before in let d = e .before .before in
-    pick-after _ _ _ _ MonthDays (Years ∷ []) (d .month-day .result) (d .month-day .ensures m) (e .enum-told .given .1)
-    ∙ pick-not _ _ _ _ Years (sym (c .before .has .ensures) ∙ c .if1 .left)))  -- returns-3
+    (λ c m.
+    let wanted = c .before .before in
+    let no-date = wanted .before .before in
+    let searched = no-date .before .before in
+    let years-wanted = sym (wanted .before .has .ensures) ∙ wanted .if1 .taken in
+    let the-item = year-item _ _ (searched .before .before .pre) ∙ c .before .year-item-after .ensures in
+    finds (c .found .result) (pick-after _ _ _ _ MonthDays (Years ∷ []) (searched .month-day .result) (searched .month-day .ensures m) (no-date .enum-told .given .1))
+    (finds-one _ _ _ _ Years (c .found .result) years-wanted (item-at _ _ the-item) (c .found .ensures)))  -- returns-2
+    (λ c m.
+    let no-date = c .before .before in
+    let searched = no-date .before .before in
+    let no-years-wanted = sym (c .before .has .ensures) ∙ c .if1 .left in
+    pick-after _ _ _ _ MonthDays (Years ∷ []) (searched .month-day .result) (searched .month-day .ensures m) (no-date .enum-told .given .1)
+    ∙ pick-not _ _ _ _ Years no-years-wanted))  -- returns-3

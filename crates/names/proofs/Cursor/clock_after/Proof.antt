@@ -24,17 +24,11 @@ clock-after-spec =
     (λ c. let w = missing c in rw (c .before .before .before .skip .ensures, w .is, c .enum-told .given .1))  -- returns
     (λ c κs. search needs)  -- byte-requires
     (λ c κs. search needs)  -- is-digit-requires
-    (λ c. let w = colon (c .before .before .before .before) in
-    rw (
-      c .before .before .before .before .before .before .before .skip .ensures,
-      w .is,
-      ahead-is isDigit _ _ (c .before .before .byte .ensures) (sym
-          (c .before .is-digit .ensures) ∙ c .if1 .taken),
-    ))  -- returns-2
-    (λ c. let w = colon (c .before .before .before .before) in
-    rw (
-      c .before .before .before .before .before .before .before .skip .ensures,
-      w .is,
-      ahead-is isDigit _ _ (c .before .before .byte .ensures) (sym
-          (c .before .is-digit .ensures) ∙ c .if1 .left),
-    )))  -- returns-3
+    (λ c.
+    let at-colon = c .before .before .before .before in
+    let a-digit = sym (c .before .is-digit .ensures) ∙ c .if1 .taken in
+    rw (at-colon .before .before .before .skip .ensures, colon at-colon .is, ahead-is isDigit _ _ (c .before .before .byte .ensures) a-digit))  -- returns-2
+    (λ c.
+    let at-colon = c .before .before .before .before in
+    let no-digit = sym (c .before .is-digit .ensures) ∙ c .if1 .left in
+    rw (at-colon .before .before .before .skip .ensures, colon at-colon .is, ahead-is isDigit _ _ (c .before .before .byte .ensures) no-digit)))  -- returns-3

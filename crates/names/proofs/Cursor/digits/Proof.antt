@@ -37,16 +37,14 @@ digits-spec =
     (λ c. search needs)  -- enum-known-next
     (λ c. search needs)  -- enum-told
     (λ c κs. search needs)  -- enough-requires
-    (λ c. let l = c .before .before .before .before .before in
+    (λ c.
+    let l = c .before .before .before .before .before in
+    let a = l .before .before .args in
+    let number-small = enough-small (a .least - l .loop .n) (l .loop .sum) (l .loop .at) (c .enough .result) (c .enough .ensures) in
+    let sum-small = below (l .loop .n) (a .most) (l .loop .sum) (l .loop .inv .0) (l .loop .inv .1) in
     record {
       is = sym (l .loop .inv .2) ∙ digit-none _ _ (l .loop .n) (l .loop .sum) _ (l .loop .at) (omega arith) (missing (c .before) .is) ∙ c .enough .ensures;
-      small =
-          omega (
-            arith,
-            enough-small (l .before .before .args .least - l .loop .n) (l .loop .sum) (l .loop .at) (c .enough .result) (c .enough .ensures),
-            below
-                (l .loop .n) (l .before .before .args .most) (l .loop .sum) (l .loop .inv .0) (l .loop .inv .1),
-          );
+      small = omega (arith, number-small, sum-small);
     })  -- returns
     (λ c. search needs)  -- add-n
     (λ c. let l = c .before .before .before .before .before in omega (arith, few (c .before .before .before .before .loop-test .taken) (l .before .before .pre) (l .loop .inv .1)))  -- mul-sum
@@ -56,14 +54,12 @@ digits-spec =
     (λ c. let l = c .before .before .before .before .before in let w = next (c .before) in
     (omega arith, grown _ _ _ (l .loop .inv .1) (w .small), sym (digit-more _ _ (l .loop .n) (l .loop .sum) _ (l .loop .at) (omega arith) (w .is)) ∙ l .loop .inv .2))  -- loop-again
     (λ c κs. search needs)  -- enough-requires-2
-    (λ c. let l = c .before .before in
+    (λ c.
+    let l = c .before .before in
+    let a = l .before .before .args in
+    let number-small = enough-small (a .least - l .loop .n) (l .loop .sum) (l .loop .at) (c .enough2 .result) (c .enough2 .ensures) in
+    let sum-small = below (l .loop .n) (a .most) (l .loop .sum) (l .loop .inv .0) (l .loop .inv .1) in
     record {
       is = sym (l .loop .inv .2) ∙ digits-full _ _ (l .loop .n) (l .loop .sum) _ (l .loop .at) (omega arith) ∙ c .enough2 .ensures;
-      small =
-          omega (
-            arith,
-            enough-small (l .before .before .args .least - l .loop .n) (l .loop .sum) (l .loop .at) (c .enough2 .result) (c .enough2 .ensures),
-            below
-                (l .loop .n) (l .before .before .args .most) (l .loop .sum) (l .loop .inv .0) (l .loop .inv .1),
-          );
+      small = omega (arith, number-small, sum-small);
     }))  -- returns-2

@@ -27,13 +27,22 @@ skip-spec =
     μ-loop
     (λ c. refl)  -- loop-holds
     (λ c. search needs)  -- shared-slice-read-b
-    (λ c. let l = c .before .before .before .before in let a = l .before .args in
-    l .loop .inv ∙ skip-stop (within (a .lo) (a .hi)) (now (a .s)) (l .loop .at) (omega arith) (within-above (a .lo) (a .hi) _ (c .before .if1 .taken) (c .if2 .taken)))  -- returns
+    (λ c.
+    let l = c .before .before .before .before in
+    let a = l .before .args in
+    let above = within-above (a .lo) (a .hi) _ (c .before .if1 .taken) (c .if2 .taken) in
+    l .loop .inv ∙ skip-stop (within (a .lo) (a .hi)) (now (a .s)) (l .loop .at) (omega arith) above)  -- returns
     (λ c. search needs)  -- add-at
     (λ c. search needs)  -- loop-less
-    (λ c. let l = c .before .before .before .before in let a = l .before .args in
-    l .loop .inv ∙ skip-more (within (a .lo) (a .hi)) (now (a .s)) (l .loop .at) (omega arith) (within-true (a .lo) (a .hi) _ (c .before .if1 .taken) (c .if2 .left))
-    ∙ ap (skip (within (a .lo) (a .hi)) (now (a .s))) (sym (add-one (l .loop .at))))  -- loop-again
-    (λ c. let l = c .before .before .before in let a = l .before .args in
-    l .loop .inv ∙ skip-stop (within (a .lo) (a .hi)) (now (a .s)) (l .loop .at) (omega arith) (within-below (a .lo) (a .hi) _ (c .if1 .left)))  -- returns-2
+    (λ c.
+    let l = c .before .before .before .before in
+    let a = l .before .args in
+    let passes = within (a .lo) (a .hi) in
+    let inside = within-true (a .lo) (a .hi) _ (c .before .if1 .taken) (c .if2 .left) in
+    l .loop .inv ∙ skip-more passes (now (a .s)) (l .loop .at) (omega arith) inside ∙ ap (skip passes (now (a .s))) (sym (add-one (l .loop .at))))  -- loop-again
+    (λ c.
+    let l = c .before .before .before in
+    let a = l .before .args in
+    let below = within-below (a .lo) (a .hi) _ (c .if1 .left) in
+    l .loop .inv ∙ skip-stop (within (a .lo) (a .hi)) (now (a .s)) (l .loop .at) (omega arith) below)  -- returns-2
     (λ c. let l = c .before in let a = l .before .args in l .loop .inv ∙ skip-end (within (a .lo) (a .hi)) (now (a .s)) (l .loop .at) (omega arith)))  -- returns-3

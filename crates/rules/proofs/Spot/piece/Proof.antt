@@ -43,29 +43,55 @@ piece-spec =
     (λ c. search needs)  -- enum-known-turn
     (λ c. search needs)  -- enum-told
     (λ c κs. search needs)  -- ended-requires
-    (λ c. let u = c .before .before .before in let a = u .before .before .args in
-    u .turn .ensures _ ∙ ap (turned (a .m) (now (a .s)) (a .self .stage) (a .self .at)) (c .before .enum-told .given .1) ∙ c .ended .ensures)  -- returns
+    (λ c.
+    let told = c .before .before .before in
+    let a = told .before .before .args in
+    told .turn .ensures _ ∙ ap (turned (a .m) (now (a .s)) (a .self .stage) (a .self .at)) (c .before .enum-told .given .1) ∙ c .ended .ensures)  -- returns
     (λ c κs. search needs)  -- look-at-requires
     (λ c. search needs)  -- enum-known-found
     (λ c. search needs)  -- enum-known-found-2
     (λ c. search needs)  -- enum-known-found-3
     (λ c κs. search needs)  -- lacking-requires
-    (λ c. let t = c .before in let f = t .before .before in let l = f .before .before in
-    has l (t .if1 .taken) ∙ has-none _ _ _ _ (look l (f .found3 .given .1) .0) ∙ c .lacking .ensures .0)  -- returns-2
+    (λ c.
+    let must = c .before in
+    let a-name = must .before .before in
+    let looked = a-name .before .before in
+    has looked (must .if1 .taken) ∙ has-none _ _ _ _ (look looked (a-name .found3 .given .1) .0) ∙ c .lacking .ensures .0)  -- returns-2
     (λ c κs. search needs)  -- with-comment-requires
-    (λ c. let e = c .before .before in let f = e .before .before in let l = f .before .before in let w = look l (f .found3 .given .1) in
-    may l (e .if1 .left) ∙ may-modifier _ _ _ _ _ _ (w .0) (w .1) (c .before .if2 .taken) ∙ c .with-comment .ensures)  -- returns-3
+    (λ c.
+    let need-not = c .before .before in
+    let a-name = need-not .before .before in
+    let looked = a-name .before .before in
+    let stands = look looked (a-name .found3 .given .1) in
+    may looked (need-not .if1 .left) ∙ may-modifier _ _ _ _ _ _ (stands .0) (stands .1) (c .before .if2 .taken) ∙ c .with-comment .ensures)  -- returns-3
     (λ c κs. search needs)  -- ended-requires-2
     (λ c. search needs)  -- enum-told-2
     (λ c κs. search needs)  -- lacking-requires-2
-    (λ c. let t = c .before in let f = t .before in let l = f .before .before in
-    has l (t .if3 .taken) ∙ has-none _ _ _ _ (look l (f .enum-told2 .given .1) .0) ∙ c .lacking2 .ensures .0)  -- returns-4
+    (λ c.
+    let must = c .before in
+    let no-name = must .before in
+    let looked = no-name .before .before in
+    has looked (must .if3 .taken) ∙ has-none _ _ _ _ (look looked (no-name .enum-told2 .given .1) .0) ∙ c .lacking2 .ensures .0)  -- returns-4
     (λ c κs. search needs)  -- noted-requires
-    (λ c. let f = c .before in let l = f .before .before in let a = start l .args in let g = l .before .before .turn2 .given .0 in
-    on l ∙ turned-item (a .m) (now (a .s)) (a .self .stage) (a .self .at) (g .0) (g .1 .0) (g .1 .1 .0) (look l (f .found .given .1)))  -- returns-5
-    (λ c. let f = c .before in let l = f .before .before in let a = start l .args in let g = l .before .before .turn2 .given .0 in
-    on l ∙ turned-refused (a .m) (now (a .s)) (a .self .stage) (a .self .at) (g .0) (g .1 .0) (g .1 .1 .0) (look l (f .found2 .given .1)))  -- returns-6
-    (λ c. let e = c .before .before in let f = e .before .before in let l = f .before .before in let w = look l (f .found3 .given .1) in
-    may l (e .if1 .left) ∙ may-other _ _ _ _ _ _ (w .0) (w .1) (c .before .if2 .left) ∙ c .ended2 .ensures)  -- returns-7
-    (λ c. let e = c .before in let f = e .before in let l = f .before .before in let w = look l (f .enum-told2 .given .1) in
-    may l (e .if3 .left) ∙ may-unnamed _ _ _ _ _ _ (w .0) (w .1) ∙ c .noted .ensures))  -- returns-8
+    (λ c.
+    let looked = c .before .before .before in
+    let a = start looked .args in
+    let g = looked .before .before .turn2 .given .0 in
+    on looked ∙ turned-item (a .m) (now (a .s)) (a .self .stage) (a .self .at) (g .0) (g .1 .0) (g .1 .1 .0) (look looked (c .before .found .given .1)))  -- returns-5
+    (λ c.
+    let looked = c .before .before .before in
+    let a = start looked .args in
+    let g = looked .before .before .turn2 .given .0 in
+    on looked ∙ turned-refused (a .m) (now (a .s)) (a .self .stage) (a .self .at) (g .0) (g .1 .0) (g .1 .1 .0) (look looked (c .before .found2 .given .1)))  -- returns-6
+    (λ c.
+    let need-not = c .before .before in
+    let a-name = need-not .before .before in
+    let looked = a-name .before .before in
+    let stands = look looked (a-name .found3 .given .1) in
+    may looked (need-not .if1 .left) ∙ may-other _ _ _ _ _ _ (stands .0) (stands .1) (c .before .if2 .left) ∙ c .ended2 .ensures)  -- returns-7
+    (λ c.
+    let need-not = c .before in
+    let no-name = need-not .before in
+    let looked = no-name .before .before in
+    let stands = look looked (no-name .enum-told2 .given .1) in
+    may looked (need-not .if3 .left) ∙ may-unnamed _ _ _ _ _ _ (stands .0) (stands .1) ∙ c .noted .ensures))  -- returns-8

@@ -24,8 +24,14 @@ comment-spec =
     (λ c κs. search needs)  -- closed-requires
     (λ c. search needs)  -- enum-told-2
     (λ c κs. search needs)  -- ill-formed-requires
-    (λ c. let k = c .before .before .before in let e = k .before in
-    rw (left (e .before .before) .is, e .letters .ensures, said (k .closed .ensures) (ap seenComment (c .before .enum-told2 .given .1)) .is) (c .ill-formed .ensures))  -- returns-2
-    (λ c. let k = c .before in let e = k .before in let a = e .before .before .before .before .before .before .args in
-    rw (left (e .before .before) .is, e .letters .ensures, k .closed .ensures) (comment-stays (k .closed .result) (c .match2 .keys2) (now (a .s))
-    (e .letters .result .at) (illFormed (a .c .at)))))  -- returns-3
+    (λ c.
+    let at-end = c .before .before .before in
+    let past-letters = at-end .before in
+    let not-closed = said (at-end .closed .ensures) (ap seenComment (c .before .enum-told2 .given .1)) in
+    rw (left (past-letters .before .before) .is, past-letters .letters .ensures, not-closed .is) (c .ill-formed .ensures))  -- returns-2
+    (λ c.
+    let at-end = c .before in
+    let past-letters = at-end .before in
+    let a = past-letters .before .before .before .before .before .before .args in
+    let stays = comment-stays (at-end .closed .result) (c .match2 .keys2) (now (a .s)) (past-letters .letters .result .at) (illFormed (a .c .at)) in
+    rw (left (past-letters .before .before) .is, past-letters .letters .ensures, at-end .closed .ensures) stays))  -- returns-3

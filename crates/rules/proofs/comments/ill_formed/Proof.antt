@@ -15,7 +15,13 @@ ill-formed-spec =
     (λ c κs. search needs)  -- sign-requires
     (λ c. search needs)  -- enum-told
     (λ c. search needs)  -- enum-told-2
-    (λ c. let d = c .before .before .before in let e = d .before .before .before .inner .ensures in
-    rw (skip-first _ _ _ _ e (d .if1 .left), skip-others _ _ _ _ e (d .if1 .left), went (c .before .before .sign .ensures) (c .enum-told .given .1) .is))  -- returns-2
-    (λ c. let d = c .before .before .before in let e = d .before .before .before .inner .ensures in
-    rw (skip-first _ _ _ _ e (d .if1 .left), skip-others _ _ _ _ e (d .if1 .left), went (c .before .before .sign .ensures) (c .enum-told2 .given .1) .is)))  -- returns-3
+    (λ c.
+    let moved = c .before .before .before in
+    let passed = moved .before .before .before .inner .ensures in
+    let a-quote = went (c .before .before .sign .ensures) (c .enum-told .given .1) in
+    rw (skip-first _ _ _ _ passed (moved .if1 .left), skip-others _ _ _ _ passed (moved .if1 .left), a-quote .is))  -- returns-2
+    (λ c.
+    let moved = c .before .before .before in
+    let passed = moved .before .before .before .inner .ensures in
+    let no-quote = went (c .before .before .sign .ensures) (c .enum-told2 .given .1) in
+    rw (skip-first _ _ _ _ passed (moved .if1 .left), skip-others _ _ _ _ passed (moved .if1 .left), no-quote .is)))  -- returns-3

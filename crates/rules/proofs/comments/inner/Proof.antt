@@ -29,8 +29,11 @@ inner-spec =
     (λ c κs. search needs)  -- is-inner-requires
     (λ c. search needs)  -- add-at
     (λ c. search needs)  -- loop-less
-    (λ c. let l = c .before .before .before .before in let s = now (l .before .before .args .s) in
-    l .loop .inv ∙ skip-more isInner s (l .loop .at) (omega arith) (sym (c .before .is-inner .ensures) ∙ c .if1 .taken) ∙ ap (skip isInner s) (sym (add-one (l .loop .at))))  -- loop-again
+    (λ c.
+    let l = c .before .before .before .before in
+    let s = now (l .before .before .args .s) in
+    let one-more = skip-more isInner s (l .loop .at) (omega arith) (sym (c .before .is-inner .ensures) ∙ c .if1 .taken) in
+    l .loop .inv ∙ one-more ∙ ap (skip isInner s) (sym (add-one (l .loop .at))))  -- loop-again
     (λ c. let l = c .before .before .before .before in
     l .loop .inv ∙ skip-stop isInner (now (l .before .before .args .s)) (l .loop .at) (omega arith) (sym (c .before .is-inner .ensures) ∙ c .if1 .left))  -- returns
     (λ c. let l = c .before in l .loop .inv ∙ skip-end isInner (now (l .before .before .args .s)) (l .loop .at) (omega arith)))  -- returns-2

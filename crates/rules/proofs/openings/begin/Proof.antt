@@ -29,8 +29,11 @@ begin-spec =
     (λ c. search needs)  -- enum-told-2
     (λ c. search needs)  -- enum-told-3
     (λ c κs. search needs)  -- plain-requires-2
-    (λ c. let k = c .before .before .before in let a = k .before .before .before .before .before .args in
-    rw (not-always (k .before) .is, no-comment (now (a .s)) (a .c .at) (went (k .sign .ensures) (c .before .enum-told3 .given .1) .is), c .plain2 .ensures))  -- returns-2
+    (λ c.
+    let at-quote = c .before .before .before in
+    let a = at-quote .before .before .before .before .before .args in
+    let no-quote = went (at-quote .sign .ensures) (c .before .enum-told3 .given .1) in
+    rw (not-always (at-quote .before) .is, no-comment (now (a .s)) (a .c .at) (no-quote .is), c .plain2 .ensures))  -- returns-2
     (λ c κs. search needs)  -- comment-requires
     (λ c. search needs)  -- enum-known-wide
     (λ c κs. search needs)  -- sign-requires-2

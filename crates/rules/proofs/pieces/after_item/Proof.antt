@@ -24,8 +24,14 @@ after-item-spec =
     (λ c. search needs)  -- enum-told-2
     (λ c κs. search needs)  -- following-requires
     (λ c κs. search needs)  -- after-blank-requires
-    (λ c m. let k = c .before .before in let n = k .before .before .before in
-    wide-piece m _ _ _ (no-comma n .is) (went (k .before .before .colon-sign .ensures) (k .colon .given .1) .is) ∙ c .after-colon .ensures m _ _)  -- returns-2
-    (λ c m. let f = c .before in let e = f .before in let n = e .before .before .before in
-    bare-piece m _ _ _ (no-comma n .is) (went (e .before .before .colon-sign .ensures) (e .enum-told2 .given .1) .is)
-    ∙ rw (f .following .ensures) at (c .after-blank .ensures m (After (n .before .before .before .before .args .kind)))))  -- returns-3
+    (λ c m.
+    let at-colon = c .before .before in
+    let past-comma = at-colon .before .before .before in
+    let the-colon = went (at-colon .before .before .colon-sign .ensures) (at-colon .colon .given .1) in
+    wide-piece m _ _ _ (no-comma past-comma .is) (the-colon .is) ∙ c .after-colon .ensures m _ _)  -- returns-2
+    (λ c m.
+    let past-colon = c .before .before in
+    let past-comma = past-colon .before .before .before in
+    let no-colon = went (past-colon .before .before .colon-sign .ensures) (past-colon .enum-told2 .given .1) in
+    let stage = After (past-comma .before .before .before .before .args .kind) in
+    bare-piece m _ _ _ (no-comma past-comma .is) (no-colon .is) ∙ rw (c .before .following .ensures) at (c .after-blank .ensures m stage)))  -- returns-3

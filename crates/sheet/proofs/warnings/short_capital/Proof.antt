@@ -32,25 +32,28 @@ short-capital-spec =
     (λ c. search needs)  -- add-t14
     (λ c κs. search needs)  -- byte-requires-3
     (λ c κs. search needs)  -- is-letter-requires
-    (λ c. let t = c .before .before in let u = t .before .before .before in let a = u .before .before .before .before .args in
+    (λ c.
+    let second = c .before .before in
+    let first = second .before .before .before in
+    let a = first .before .before .before .before .args in
+    let capital = sym (first .before .within .ensures) ∙ first .if1 .taken in
+    let small = sym (second .before .within2 .ensures) ∙ second .if2 .taken in
     rw (
       three (now (a .s)) (a .at),
-      ← u .before .before .byte .ensures,
-      sym (u .before .within .ensures)
-          ∙ u .if1 .taken,
-      ← t .before .before .byte2 .ensures,
-      sym (t .before .within2 .ensures) ∙ t .if2 .taken,
+      ← first .before .before .byte .ensures,
+      capital,
+      ← second .before .before .byte2 .ensures,
+      small,
       ← c .before .byte3 .ensures,
       c .is-letter .ensures,
     ))  -- returns
-    (λ c. let u = c .before .before .before in let a = u .before .before .before .before .args in
-    rw (
-      three (now (a .s)) (a .at),
-      ← u .before .before .byte .ensures,
-      sym (u .before .within .ensures)
-          ∙ u .if1 .taken,
-      ← c .before .before .byte2 .ensures,
-      sym (c .before .within2 .ensures) ∙ c .if2 .left,
-    ))  -- returns-2
-    (λ c. let a = c .before .before .before .before .args in
-    rw (three (now (a .s)) (a .at), ← c .before .before .byte .ensures, sym (c .before .within .ensures) ∙ c .if1 .left)))  -- returns-3
+    (λ c.
+    let first = c .before .before .before in
+    let a = first .before .before .before .before .args in
+    let capital = sym (first .before .within .ensures) ∙ first .if1 .taken in
+    let not-small = sym (c .before .within2 .ensures) ∙ c .if2 .left in
+    rw (three (now (a .s)) (a .at), ← first .before .before .byte .ensures, capital, ← c .before .before .byte2 .ensures, not-small))  -- returns-2
+    (λ c.
+    let a = c .before .before .before .before .args in
+    let no-capital = sym (c .before .within .ensures) ∙ c .if1 .left in
+    rw (three (now (a .s)) (a .at), ← c .before .before .byte .ensures, no-capital)))  -- returns-3

@@ -95,7 +95,7 @@ fn one_rule(w: &mut Writer<'_>, rule: &Rule<'_>) {
         Some(note) => w.bytes(note),
     }
     w.key("items").array();
-    rule.items().for_each(|entry| items::item(w, &entry));
+    rule.items().for_each(|item| items::item(w, &item));
     w.end_array();
     w.end_object();
 }

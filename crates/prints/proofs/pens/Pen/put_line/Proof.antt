@@ -42,18 +42,21 @@ put-line-spec =
     (λ c κs. search needs)  -- put-requires
     (λ c. search needs)  -- add-i
     (λ c. search needs)  -- loop-less
-    (λ c. let p = c .before .before in
-    let w = p .before .before .before .before in
-    let j = w .before .before .before in
-    let l = j .before .before in
+    (λ c.
+    let sign-put = c .before .before in
+    let word-put = sign-put .before .before .before .before in
+    let joined = word-put .before .before .before in
+    let l = joined .before .before in
     let ws = now (l .before .before .args .words) in
-    let i = l .loop .i in (
+    let i = l .loop .i in
+    let word = getD ws i (pos 0) in
+    let later = line (drop (i + 1) ws) in
+    let the-word = rw (toZ-ofZ {w = w32} {z = word} (sfits-of (word-put .before .put-word-arg2 .given))) at (word-put .put-word .ensures .1) in (
       search needs,
-      omega (arith, l .loop .inv .1, w .put-word .ensures .0, ap (λ r. r .0) (p .put .ensures)),
-      less-left (j .if1 .end ∷ []) (line (drop (i + 1) ws)) (search needs)
-          (less-left (signed (getD ws i (pos 0))) (after (drop (i + 1) ws) ∷ line (drop (i + 1) ws)) (search needs) (l .loop .inv .2) (line-more ws i (j .before .loop-test .taken))
-          (rw (toZ-ofZ {w = w32} {z = getD ws i (pos 0)} (sfits-of (w .before .put-word-arg2 .given))) at (w .put-word .ensures .1)))
-          (rw (ended j)) (p .put .ensures),
+      omega (arith, l .loop .inv .1, word-put .put-word .ensures .0, ap (λ r. r .0) (sign-put .put .ensures)),
+      less-left (joined .if1 .end ∷ []) later (search needs)
+          (less-left (signed word) (after (drop (i + 1) ws) ∷ later) (search needs) (l .loop .inv .2) (line-more ws i (joined .before .loop-test .taken)) the-word)
+          (rw (ended joined)) (sign-put .put .ensures),
     ))  -- loop-again
     (λ c. search needs)  -- same-length
     (λ c. let l = c .before .loop in

@@ -1,13 +1,13 @@
 //! The items of a rule: each record's words in clear.
-use lorukinde::{Date, Dates, Day, Entry, Holiday, HolidayKind, Meaning, Months, Span, Steps, Time, ToWeekday, Weekdays};
+use lorukinde::{Date, Dates, Day, Holiday, HolidayKind, Meaning, Months, Placed, Span, Steps, Time, ToWeekday, Weekdays};
 
 use super::writer::Writer;
 
-pub fn item(w: &mut Writer<'_>, entry: &Entry) {
+pub fn item(w: &mut Writer<'_>, placed: &Placed) {
     w.object();
-    w.key("kind").text(kind(&entry.meaning));
-    w.key("place").number(entry.place);
-    match &entry.meaning {
+    w.key("kind").text(kind(&placed.meaning));
+    w.key("place").number(placed.place);
+    match &placed.meaning {
         Meaning::Years(some) | Meaning::Weeks(some) => steps(w, some),
         Meaning::Months(some) => months(w, some),
         Meaning::Dates(some) => dates(w, some),

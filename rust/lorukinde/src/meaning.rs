@@ -2,9 +2,9 @@
 use crate::names::{MONTHS, WEEKDAYS};
 use crate::record::Record;
 
-/// What a record says, and where it says it.
+/// A meaning, and the place where it stands.
 #[derive(Clone, Copy, Debug, PartialEq, Eq)]
-pub struct Entry {
+pub struct Placed {
     /// The item's first byte in the sheet: its year's if it has one, a week's number's; for a head, where its rule begins.
     /// For words that no reading writes it is 0.
     pub place: usize,
@@ -26,7 +26,7 @@ pub enum Meaning {
     Raw([i32; 16]),
 }
 
-/// The kind of list that an entry can stand in. Items of one kind add to each other, and a day has to fit each kind that stands in
+/// The kind of list that an item can stand in. Items of one kind add to each other, and a day has to fit each kind that stands in
 /// a rule.
 #[derive(Clone, Copy, Debug, PartialEq, Eq)]
 pub(crate) enum Kind {
@@ -279,15 +279,15 @@ impl Month {
 }
 
 impl Record {
-    pub fn entry(&self) -> Entry {
+    pub fn placed(&self) -> Placed {
         let words = self.words();
-        typed(&words).unwrap_or(Entry { place: 0, meaning: Meaning::Raw(words) })
+        typed(&words).unwrap_or(Placed { place: 0, meaning: Meaning::Raw(words) })
     }
 }
 
-/// The entry of words that a reading can write, as far as their types tell; None for others.
-fn typed(w: &[i32; 16]) -> Option<Entry> {
-    Some(Entry { place: usize::try_from(w[15]).ok()?, meaning: meaning(w)? })
+/// The meaning and the place of words that a reading can write, as far as their types tell; None for others.
+fn typed(w: &[i32; 16]) -> Option<Placed> {
+    Some(Placed { place: usize::try_from(w[15]).ok()?, meaning: meaning(w)? })
 }
 
 fn meaning(w: &[i32; 16]) -> Option<Meaning> {

@@ -1,4 +1,4 @@
-/* entry FILE: reads each line of a file as a sheet through the C entry, all in one process, and writes as the program `hours` does:
+/* calls FILE: reads each line of a file as a sheet through a C call, all in one process, and writes as the program `hours` does:
  * four numbers (number, place, records, warnings), then each record's 16 words. A sheet has any bytes but 10; the last line may lack its end. */
 #include <inttypes.h>
 #include <stdio.h>
@@ -28,7 +28,7 @@ int main(int argc, char **argv)
 {
     FILE *f = argc == 2 ? fopen(argv[1], "rb") : NULL;
     if (!f || fseek(f, 0, SEEK_END)) {
-        fprintf(stderr, "entry FILE: the file cannot be read\n");
+        fprintf(stderr, "calls FILE: the file cannot be read\n");
         return 2;
     }
     size_t length = (size_t)ftell(f);

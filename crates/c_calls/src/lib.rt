@@ -2,7 +2,7 @@
 ghost use Prim.Native.Nat.{_≤_};
 ghost use mathlib.Core.List.{[], _∷_};
 ghost use mathlib.Core.Path.{_≡_};
-ghost use Rattle.entries.specs.Calls.{flag, sheetNumbers, partNumbers, sheetCall, sheetCallIn, houseCall, partCall, partCallIn, housePartCall, noteCall, feedCall};
+ghost use Rattle.c_calls.specs.Calls.{flag, sheetNumbers, partNumbers, sheetCall, sheetCallIn, houseCall, partCall, partCallIn, housePartCall, noteCall, feedCall};
 use feed::read_feed_bytes;
 use sheet::Answer;
 use sheet::PartAnswer;
@@ -110,7 +110,8 @@ pub extern "C" fn lorukinde_read_part(
     next: &mut u32,
     last: &mut u32,
 ) -> u32
-    ensures { λ r. ⌜ (r ∷ now (place .exit) ∷ now (records .exit) ∷ now (warnings .exit) ∷ now (next .exit) ∷ now (last .exit) ∷ [], now (table .exit)) ≡ partCall (now (sheet .entry)) begin (now (table .entry)) ⌝ }
+    ensures { λ r. ⌜ (r ∷ now (place .exit) ∷ now (records .exit) ∷ now (warnings .exit) ∷ now (next .exit) ∷ now (last .exit) ∷ [], now (table .exit))
+        ≡ partCall (now (sheet .entry)) begin (now (table .entry)) ⌝ }
 {
     let part = read_part_bytes(sheet, begin, table);
     part_numbers(part, place, records, warnings, next, last)
@@ -129,7 +130,8 @@ pub extern "C" fn lorukinde_read_part_in(
     next: &mut u32,
     last: &mut u32,
 ) -> u32
-    ensures { λ r. ⌜ (r ∷ now (place .exit) ∷ now (records .exit) ∷ now (warnings .exit) ∷ now (next .exit) ∷ now (last .exit) ∷ [], now (table .exit)) ≡ partCallIn edition (now (sheet .entry)) begin (now (table .entry)) ⌝ }
+    ensures { λ r. ⌜ (r ∷ now (place .exit) ∷ now (records .exit) ∷ now (warnings .exit) ∷ now (next .exit) ∷ now (last .exit) ∷ [], now (table .exit))
+        ≡ partCallIn edition (now (sheet .entry)) begin (now (table .entry)) ⌝ }
 {
     let part = read_part_bytes_in(edition, sheet, begin, table);
     part_numbers(part, place, records, warnings, next, last)
@@ -147,7 +149,8 @@ pub extern "C" fn lorukinde_read_house_part(
     next: &mut u32,
     last: &mut u32,
 ) -> u32
-    ensures { λ r. ⌜ (r ∷ now (place .exit) ∷ now (records .exit) ∷ now (warnings .exit) ∷ now (next .exit) ∷ now (last .exit) ∷ [], now (table .exit)) ≡ housePartCall (now (sheet .entry)) begin (now (table .entry)) ⌝ }
+    ensures { λ r. ⌜ (r ∷ now (place .exit) ∷ now (records .exit) ∷ now (warnings .exit) ∷ now (next .exit) ∷ now (last .exit) ∷ [], now (table .exit))
+        ≡ housePartCall (now (sheet .entry)) begin (now (table .entry)) ⌝ }
 {
     let part = read_house_part_bytes(sheet, begin, table);
     part_numbers(part, place, records, warnings, next, last)

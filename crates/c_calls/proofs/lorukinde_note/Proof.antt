@@ -1,9 +1,9 @@
 use borrow.Author.Needs.{needs}
 use mathlib.Core.Path.{ap}
 use mir.Facts.{toZ-ofZ}
-use Rattle.entries.specs.Calls.{noteNumbers, noteCall}
-use Rattle.entries.proofs.lorukinde_note.Statement.{statement}
-use Rattle.entries.proofs.lorukinde_note.Tie as tie
+use Rattle.c_calls.specs.Calls.{noteNumbers, noteCall}
+use Rattle.c_calls.proofs.lorukinde_note.Statement.{statement}
+use Rattle.c_calls.proofs.lorukinde_note.Tie as tie
 
 pub lorukinde-note-spec : {M : Type 1} → statement M
 unfolding noteCall

@@ -3,9 +3,9 @@ use Prim.Native.Nat.{ℕ}
 use mathlib.Core.List.{List}
 use mathlib.Core.Path.{ap}
 use Rattle.feed.specs.declared.FeedAnswer.{FeedAnswer}
-use Rattle.entries.specs.Calls.{feedNumbers, feedCall}
-use Rattle.entries.proofs.lorukinde_read_feed.Statement.{statement}
-use Rattle.entries.proofs.lorukinde_read_feed.Tie as tie
+use Rattle.c_calls.specs.Calls.{feedNumbers, feedCall}
+use Rattle.c_calls.proofs.lorukinde_read_feed.Statement.{statement}
+use Rattle.c_calls.proofs.lorukinde_read_feed.Tie as tie
 
 pub lorukinde-read-feed-spec : {M : Type 1} → statement M
 unfolding feedCall

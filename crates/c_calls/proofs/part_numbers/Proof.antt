@@ -1,6 +1,6 @@
 use borrow.Author.Needs.{needs}
-use Rattle.entries.proofs.part_numbers.Statement.{statement}
-use Rattle.entries.proofs.part_numbers.Tie as tie
+use Rattle.c_calls.proofs.part_numbers.Statement.{statement}
+use Rattle.c_calls.proofs.part_numbers.Tie as tie
 
 pub part-numbers-spec : {M : Type 1} → statement M
 part-numbers-spec =

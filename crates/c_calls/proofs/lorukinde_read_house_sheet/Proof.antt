@@ -5,9 +5,9 @@ use mathlib.Core.List.{List}
 use mathlib.Core.Path.{sym, ap, subst}
 use Rattle.sheet.specs.declared.Answer.{Answer}
 use Rattle.sheet.proofs.Bounds.{Small, sheet-bytes-small}
-use Rattle.entries.specs.Calls.{sheetNumbers, sheetCallBy}
-use Rattle.entries.proofs.lorukinde_read_house_sheet.Statement.{statement}
-use Rattle.entries.proofs.lorukinde_read_house_sheet.Tie as tie
+use Rattle.c_calls.specs.Calls.{sheetNumbers, sheetCallBy}
+use Rattle.c_calls.proofs.lorukinde_read_house_sheet.Statement.{statement}
+use Rattle.c_calls.proofs.lorukinde_read_house_sheet.Tie as tie
 
 small : (c : tie.After-read-house-sheet-bytes) → Small (c .read-house-sheet-bytes .result)
 small c = subst (λ (r : Answer × List ℕ). Small (r .0)) (sym (c .read-house-sheet-bytes .ensures)) (sheet-bytes-small _ _ _)

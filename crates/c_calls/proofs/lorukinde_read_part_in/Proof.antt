@@ -5,9 +5,9 @@ use mathlib.Core.List.{List}
 use mathlib.Core.Path.{sym, ap, subst}
 use Rattle.sheet.specs.declared.PartAnswer.{PartAnswer}
 use Rattle.sheet.proofs.Bounds.{SmallPart, part-in-small}
-use Rattle.entries.specs.Calls.{partNumbers, partCallIn}
-use Rattle.entries.proofs.lorukinde_read_part_in.Statement.{statement}
-use Rattle.entries.proofs.lorukinde_read_part_in.Tie as tie
+use Rattle.c_calls.specs.Calls.{partNumbers, partCallIn}
+use Rattle.c_calls.proofs.lorukinde_read_part_in.Statement.{statement}
+use Rattle.c_calls.proofs.lorukinde_read_part_in.Tie as tie
 
 small : (c : tie.After-read-part-bytes-in) → SmallPart (c .read-part-bytes-in .result)
 small c = subst (λ (r : PartAnswer × List ℕ). SmallPart (r .0)) (sym (c .read-part-bytes-in .ensures)) (part-in-small _ _ _ _)

@@ -5,9 +5,9 @@ use mathlib.Core.List.{List}
 use mathlib.Core.Path.{sym, ap, subst}
 use Rattle.sheet.specs.declared.Answer.{Answer}
 use Rattle.sheet.proofs.Bounds.{Small, sheet-in-small}
-use Rattle.entries.specs.Calls.{sheetNumbers, sheetCallIn}
-use Rattle.entries.proofs.lorukinde_read_sheet_in.Statement.{statement}
-use Rattle.entries.proofs.lorukinde_read_sheet_in.Tie as tie
+use Rattle.c_calls.specs.Calls.{sheetNumbers, sheetCallIn}
+use Rattle.c_calls.proofs.lorukinde_read_sheet_in.Statement.{statement}
+use Rattle.c_calls.proofs.lorukinde_read_sheet_in.Tie as tie
 
 small : (c : tie.After-read-sheet-bytes-in) → Small (c .read-sheet-bytes-in .result)
 small c = subst (λ (r : Answer × List ℕ). Small (r .0)) (sym (c .read-sheet-bytes-in .ensures)) (sheet-in-small _ _ _)
