@@ -2,7 +2,7 @@
 """What a reading costs: instructions a sheet, ours, a plain C reader's and the Rust's, and how the cost grows with the sheet. Writes the tables of
 docs/SPEED.md.
 
-    measure.py BENCH BENCH_C [NAME=ORACLE ...] [--emulated PLUGIN]      BENCH_C: bench.c with reader.c in the place of the library
+    measure.py BENCH BENCH_C STACK [NAME=ORACLE ...] [--emulated PLUGIN]      BENCH_C: bench.c with reader.c in the place of the library; STACK: stack.c
 
 Instructions are counted (callgrind; with --emulated by qemu-x86_64 and the plugin insn.c), for two numbers of rounds: the difference, by the rounds and
 the sheets between them, is one reading without start and end of the process. It is the same in every run. Seconds, on x86-64 alone, are the best of
@@ -37,7 +37,8 @@ class Meter:
         done = subprocess.run(run, stdout=subprocess.PIPE, stderr=subprocess.PIPE, check=True)
         return int(re.search(rb"(?:Collected ?|instructions): *(\d+)", done.stderr + done.stdout).group(1))
 
-    def accepted(self, command):
+    def number(self, command):
+        """the number that a program writes"""
         run = ["qemu-x86_64"] if self.plugin else []
         return int(subprocess.run(run + command, stdout=subprocess.PIPE, check=True).stdout)
 
@@ -97,6 +98,7 @@ def main():
     p = argparse.ArgumentParser()
     p.add_argument("bench")
     p.add_argument("bench_c")
+    p.add_argument("stack")
     p.add_argument("rust", nargs="*")
     p.add_argument("--emulated", metavar="PLUGIN")
     args = p.parse_args()
@@ -106,7 +108,7 @@ def main():
 
     sheets = lines_of(COMMON)
     for words in [ours, plain] + [words for _, words in rusts]:
-        if meter.accepted([*words, COMMON, "1"]) != len(sheets):
+        if meter.number([*words, COMMON, "1"]) != len(sheets):
             sys.exit(f"not every common sheet is accepted by {words}")
     print(f"{len(sheets)} common sheets, {sum(map(len, sheets)) / len(sheets):.1f} bytes on average:\n")
     print("| reader | instructions a sheet | microseconds a sheet |\n|---|---|---|")
@@ -126,7 +128,7 @@ def main():
     growth = []
     for rows in zip(*map(sheets_by_size, SIZES)):
         for sheet in (sheet for _, sheet in rows):
-            if meter.accepted([*ours, meter.file_of(sheet), "1"]) == sheet.endswith(b"x"):
+            if meter.number([*ours, meter.file_of(sheet), "1"]) == sheet.endswith(b"x"):
                 sys.exit(f"accepted or not: {sheet}")
         growth.append(meter.row(rows[0][0], ours, [sheet for _, sheet in rows]))
     for rows in list(zip(*map(sheets_by_size, SIZES)))[:2]:
@@ -141,6 +143,8 @@ def main():
     for (name, _), figure in zip(rusts, figures[2:]):
         asked(f"at least 10 times fewer than {name}", f"{figure / figures[0]:.1f} times", figure >= 10 * figures[0])
     asked("a byte of a longer sheet costs at most twice one of 24", f"at most {max(growth):.2f} times", max(growth) <= 2)
+    stack = meter.number([args.stack, COMMON])
+    asked("at most 4 kilobytes of stack", f"{stack:,} bytes", 0 < stack <= 4096)
 
 
 if __name__ == "__main__":

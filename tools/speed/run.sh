@@ -7,6 +7,7 @@ here=$(cd "$(dirname "$0")" && pwd)
 . "$here/../archive.sh"
 dir=$root/target/speed
 build "$dir/bench" "$here/bench.c"
+build "$dir/stack" "$here/stack.c" -pthread
 $compiler -O2 -Wall -Wextra -DPLAIN_C -I "$root/include" "$here/bench.c" "$here/reader.c" -o "$dir/bench_c"
 
 # rust FOLDER: the Rust, as the environment has it, if it is not there
@@ -21,8 +22,8 @@ if [ -z "${NO_RUST:-}" ]; then
 fi
 if [ "$(uname -m)" = x86_64 ]; then
     need valgrind valgrind
-    exec python3 "$here/measure.py" "$dir/bench" "$dir/bench_c" "${rusts[@]}"
+    exec python3 "$here/measure.py" "$dir/bench" "$dir/bench_c" "$dir/stack" "${rusts[@]}"
 fi
 need gcc gcc libc6-dev
 gcc -O2 -shared -fPIC "$here/insn.c" -o "$dir/insn.so"
-exec python3 "$here/measure.py" "$dir/bench" "$dir/bench_c" "${rusts[@]}" --emulated "$dir/insn.so"
+exec python3 "$here/measure.py" "$dir/bench" "$dir/bench_c" "$dir/stack" "${rusts[@]}" --emulated "$dir/insn.so"
