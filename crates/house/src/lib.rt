@@ -1,4 +1,5 @@
-// The house profile, a judgement over the rules that were read: only `;` between rules; only clock times, up to 24:00, without repeat or open end; and within a rule spans in rising order, each end after its start and no two overlapping.
+// The house profile, a judgement over the rules that were read: only `;` between rules; only clock times, up to 24:00, without repeat or open end;
+// and within a rule spans in rising order, each end after its start and no two overlapping.
 mod breaks;
 mod spans;
 

@@ -47,7 +47,8 @@ pub enum Wish {
     Not,
 }
 
-// What stands at a place: an item that was wanted, its place, its kind and the place after it; the refusal of one, its number and place; else a name, its kind, which of its kind it is and the place after it; or neither.
+// What stands at a place: an item that was wanted, its place, its kind and the place after it; the refusal of one, its number and place;
+// else a name, its kind, which of its kind it is and the place after it; or neither.
 pub enum Stands {
     Item(Item, usize, Kind, Cursor),
     Refused(u8, usize),

@@ -60,7 +60,8 @@ fn fill_pieces(
     }
 }
 
-// A rule is read: how many items it has, its first break and the place after it, or its refusal. Its records go into both tables from a slot on, its head first, then its items, each where the table has its slot.
+// A rule is read: how many items it has, its first break and the place after it, or its refusal.
+// Its records go into both tables from a slot on, its head first, then its items, each where the table has its slot.
 pub fn fill_rule(
     s: &[u8],
     m: Manner,

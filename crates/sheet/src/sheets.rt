@@ -56,7 +56,8 @@ fn put_records(from: &[i32], n: usize, words: &mut [i32], bytes: &mut [u8])
     }
 }
 
-// The text from place p on to the end of s is read into both tables, if a table of `size` words has room for its records. They are kept in a table of our own until they are counted; more than it holds are read again.
+// The text from place p on to the end of s is read into both tables, if a table of `size` words has room for its records.
+// They are kept in a table of our own until they are counted; more than it holds are read again.
 pub fn read_text(
     s: &[u8],
     m: Manner,

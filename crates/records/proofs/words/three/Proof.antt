@@ -12,4 +12,11 @@ three-spec =
     (λ c. search needs)  -- cast-t6
     (λ c. search needs)  -- cast-t7
     (λ c. search needs)  -- cast-t18
-    (λ c. let a = c .args in rw (word-fits (a .kind) (c .fits .kind .sfits), word (a .a) (omega arith), word (a .b) (omega arith), word (a .c) (omega arith), word (a .place) (omega (arith, c .pre)))))  -- returns
+    (λ c. let a = c .args in
+    rw (
+      word-fits (a .kind) (c .fits .kind .sfits),
+      word (a .a) (omega arith),
+      word (a .b) (omega arith),
+      word (a .c) (omega arith),
+      word (a .place) (omega (arith, c .pre)),
+    )))  -- returns

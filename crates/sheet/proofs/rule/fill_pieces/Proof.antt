@@ -77,7 +77,8 @@ fill-pieces-spec =
     (λ c κs. search needs)  -- item-requires
     (λ c. let m = c .before .before .before .before .before in let l = m .before .before .before in let z = l .before .before .before .before .before in
     omega (arith, past-one (more-local _ _) (more-is m), l .loop .inv .few, z .pre .0, z .pre .1 .0))  -- add-keep-item
-    (λ c κs. let m = c .before .before .before .before .before in omega (arith, item-placed _ _ _ _ (more-is m), m .before .before .before .before .before .before .before .before .pre .0))  -- keep-item-requires
+    (λ c κs. let m = c .before .before .before .before .before in let l = m .before .before .before in let z = l .before .before .before .before .before in
+    omega (arith, item-placed _ _ _ _ (more-is m), z .pre .0))  -- keep-item-requires
     (λ c. let a = c .before .before .before .before .before .before .before in omega (arith, past-one (more-local _ _) (more-is (a .before .before)), a .after .ensures .1))  -- loop-less
     (λ c. let k = c .before .before .before in let i = k .before .before .before in let a = i .before in let m = a .before .before in let l = m .before .before .before in
     rw (k .keep-item .ensures, i .item .ensures, a .after .ensures .0, a .after .ensures .1)
@@ -95,7 +96,8 @@ fill-pieces-spec =
     ))  -- keep-head-requires
     (λ c. let w = c .before .before in w .words2 .given ∙ w .before .before .before .before .before .before .before .before .before .loop .inv .words)  -- same-length
     (λ c. let w = c .before in w .bytes2 .given ∙ w .before .before .before .before .before .before .before .before .before .before .loop .inv .bytes)  -- same-length-2
-    (λ c. let k = c .before .before .before in let h = k .before in let p = h .before .before .before .before in rw (k .keep-head .ensures, h .head-of .ensures) (ended (p .before .before .before) (end p .is)))  -- returns
+    (λ c. let k = c .before .before .before in let h = k .before in let p = h .before .before .before .before in let l = p .before .before .before in
+    rw (k .keep-head .ensures, h .head-of .ensures) (ended l (end p .is)))  -- returns
     (λ c. search needs)  -- enum-known-piece-3
     (λ c. c .before .before .before .before .loop .inv .words)  -- same-length-3
     (λ c. c .before .before .before .before .loop .inv .bytes)  -- same-length-4

@@ -15,4 +15,5 @@ time-of-spec =
     (λ c κs. search needs)  -- signed-requires
     (λ c κs. search needs)  -- event-of-requires
     (λ c. rw (c .before .before .t .given .1, c .minutes-of .ensures))  -- returns
-    (λ c. rw (c .before .before .before .before .t2 .given .1, ← c .before .before .minutes-of2 .ensures, ← c .before .signed .ensures) (rw (half-fits (c .before .signed .result) (c .before .signed .ok)) at (c .event-of .ensures))))  -- returns-2
+    (λ c. let n = c .before in let minutes = n .before in let event = rw (half-fits (n .signed .result) (n .signed .ok)) at (c .event-of .ensures) in
+    rw (minutes .before .before .t2 .given .1, ← minutes .minutes-of2 .ensures, ← n .signed .ensures) event))  -- returns-2
