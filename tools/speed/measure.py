@@ -1,8 +1,10 @@
 #!/usr/bin/env python3
-"""What a reading costs: instructions a sheet, ours, a plain C reader's and the Rust's, and how the cost grows with the sheet. Writes the tables of
-docs/SPEED.md.
+"""What a reading costs: instructions a sheet, ours, a plain C reader's, the Rust's and KOpeningHours', and how the cost grows with the sheet.
+Writes the tables of docs/SPEED.md.
 
-    measure.py BENCH BENCH_C STACK [NAME=ORACLE ...] [--emulated PLUGIN]      BENCH_C: bench.c with reader.c in the place of the library; STACK: stack.c
+    measure.py BENCH BENCH_C STACK [NAME=ORACLE ...] [--emulated PLUGIN] [--kopeninghours PROGRAM]
+
+BENCH_C is bench.c with reader.c in the place of the library, STACK stack.c, PROGRAM kopeninghours.cpp.
 
 Instructions are counted (callgrind; with --emulated by qemu-x86_64 and the plugin insn.c), for two numbers of rounds: the difference, by the rounds and
 the sheets between them, is one reading without start and end of the process. It is the same in every run. Seconds, on x86-64 alone, are the best of
@@ -101,6 +103,7 @@ def main():
     p.add_argument("stack")
     p.add_argument("rust", nargs="*")
     p.add_argument("--emulated", metavar="PLUGIN")
+    p.add_argument("--kopeninghours", metavar="PROGRAM")
     args = p.parse_args()
     meter = Meter(args.emulated)
     ours, plain = [args.bench], [args.bench_c]
@@ -114,7 +117,11 @@ def main():
     print("| reader | instructions a sheet | microseconds a sheet |\n|---|---|---|")
     figures = []
     readers = [("`lorukinde_read_sheet`", ours, 10, 110), ("a plain C reader, `tools/speed/reader.c`", plain, 10, 110)]
-    for name, words, few, many in readers + [(name, words, 2, 12) for name, words in rusts]:
+    others = list(rusts)
+    if args.kopeninghours:
+        taken = meter.number([args.kopeninghours, COMMON, "1"])
+        others.append((f"KOpeningHours, which takes {taken} of them", [args.kopeninghours]))
+    for name, words, few, many in readers + [(name, words, 2, 12) for name, words in others]:
         figures.append(meter.each(words, COMMON, few, many))
         wall = "" if args.emulated else f"{1e6 * meter.best(words, COMMON, few, 40 * many):.2f}"
         print(f"| {name} | {figures[-1]:,.0f} | {wall} |", flush=True)

@@ -1,5 +1,5 @@
 #!/usr/bin/env bash
-# What a reading costs, ours, a plain C reader's and the Rust's in one run: writes the tables of docs/SPEED.md.
+# What a reading costs, ours, a plain C reader's, the Rust's and on x86-64 KOpeningHours' in one run: writes the tables of docs/SPEED.md.
 #   NO_RUST   if set: the Rust is left out
 # On x86-64 valgrind counts. Elsewhere both are built for x86-64 and qemu-x86_64 counts.
 set -euo pipefail
@@ -22,7 +22,10 @@ if [ -z "${NO_RUST:-}" ]; then
 fi
 if [ "$(uname -m)" = x86_64 ]; then
     need valgrind valgrind
-    exec python3 "$here/measure.py" "$dir/bench" "$dir/bench_c" "$dir/stack" "${rusts[@]}"
+    need_packages g++ qtbase5-dev libkopeninghours-dev
+    qt=/usr/include/x86_64-linux-gnu/qt5
+    g++ -O2 -Wall -Wextra -fPIC -I /usr/include/kopeninghours -I $qt -I $qt/QtCore "$here/kopeninghours.cpp" -o "$dir/kopeninghours" -lKOpeningHours -lQt5Core
+    exec python3 "$here/measure.py" "$dir/bench" "$dir/bench_c" "$dir/stack" "${rusts[@]}" --kopeninghours "$dir/kopeninghours"
 fi
 need gcc gcc libc6-dev
 gcc -O2 -shared -fPIC "$here/insn.c" -o "$dir/insn.so"
