@@ -1,7 +1,7 @@
 -- What dates and months mean (docs/RULES.md, 4).
 use Prim.Native.Nat.{ℕ}
 use mathlib.Core.Bool.{Bool, true, false, _&&_, _||_, not}
-use lib.IntN.{ℤ, pos, negsuc}
+use lib.IntN.{ℤ, pos}
 use lib.Signed.{leZ}
 use Rattle.names.specs.Tests.{if_then_else_, within}
 use Rattle.names.specs.Refusals.{easterDay, range}
@@ -36,7 +36,7 @@ between lo hi n = leZ lo n && leZ n hi
 
 -- n from 1 to 5, from the month's start or from its end
 unfoldable pub goodNth : ℤ → Bool
-goodNth n = between (pos 1) (pos 5) n || between (negsuc 4) (negsuc 0) n
+goodNth n = between (pos 1) (pos 5) n || between (signed true 5) (signed true 1) n
 
 -- D from 1 to 31, n from 1 to 5
 abbrev pub goodDay : Day → Bool

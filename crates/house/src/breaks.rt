@@ -11,7 +11,7 @@ use names::Manner;
 use records::Item;
 use records::Span;
 
-// A break, or else another.
+// A break, or else another. (It is made of its fields: a copy of the whole costs the editions more.)
 pub fn first_of(a: Break, b: Break) -> Break
     ensures { λ r. ⌜ r ≡ breaks.firstOf a b ⌝ }
 {

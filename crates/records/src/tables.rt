@@ -20,7 +20,8 @@ pub fn keep(words: &mut [i32], bytes: &mut [u8], slot: usize, w: [i32; 16])
     keep_words(words, slot, w);
 }
 
-// The record of an item at a place of a text of at most 4,096 bytes goes into its slot of each table. Each kind stores its own: no kind waits for the words of another.
+// The record of an item at a place of a text of at most 4,096 bytes goes into its slot of each table.
+// Each kind stores its own record: that costs less than one store for the words of any kind.
 pub fn keep_item(words: &mut [i32], bytes: &mut [u8], slot: usize, a: Item, place: usize)
     requires { ⌜ place ≤ 4096 ⌝ }
     ensures { λ _. ⌜ (now (words .exit), now (bytes .exit)) ≡ keptIn (now (words .entry), now (bytes .entry)) slot (placedAt place (wordsOf a)) ⌝ }
