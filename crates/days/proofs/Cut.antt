@@ -12,13 +12,14 @@ use Rattle.names.proofs.Local.{free, pure-local, then-local, or-local, maybe-lo
 use Rattle.names.proofs.Cut.{byte-local, blank-local, count-local, ordinal-local}
 use Rattle.names.proofs.Chains.{many-local}
 use Rattle.names.proofs.NameCut.{name-local}
+use Rattle.names.proofs.Odd.{named-local}
 use lib.IntN.{ℤ}
 use Rattle.records.specs.declared.Item.the-variants.{Holidays}
 use Rattle.records.specs.declared.Meant.the-variants.{Is, Refused}
 use Rattle.records.proofs.Cut.{Alike, Refuses, refuses-if, item-alike}
 use Rattle.days.specs.Offsets.{plusOrMinus, dayOffset, noDays, anyDays, wdayOffset, offset, goodDays, daysOf}
 use Rattle.days.specs.Entries.{backEntry, frontEntry, entry, nextEntry, noMarks, entries, bits}
-use Rattle.days.specs.Weekdays.{lastWeekday, bracketed, untilWeekday, withEntries, narrowAfter, wideAfter, weekdayAfter, weekdayShape, weekdaysOf, flagged, weekdayMeaning, weekdayItem}
+use Rattle.days.specs.Weekdays.{Weekday, again, lastWeekday, bracketed, untilWeekday, withEntries, narrowAfter, wideAfter, weekdayAfter, weekdayShape, weekdaysOf, flagged, weekdayMeaning, weekdayItem}
 use Rattle.days.specs.Holidays.{holidayAfter, holidayShape, holidayMeaning, holidayItem}
 use Rattle.days.specs.declared.RawWeekdays.{RawWeekdays}
 use Rattle.days.specs.declared.RawHoliday.{RawHoliday}
@@ -40,7 +41,7 @@ module _ {u : List ℕ} where
 
   pub wdayOffset-alike : Alike u 1 wdayOffset
   unfolding wdayOffset
-  wdayOffset-alike = then-local plusOrMinus-alike (λ negative. then-local (free (name-local weekday)) (λ w. pure-local _))
+  wdayOffset-alike = then-local plusOrMinus-alike (λ negative. then-local (free (named-local weekday)) (λ w. pure-local _))
 
   pub offset-alike : Alike u 0 offset
   unfolding offset
@@ -68,7 +69,7 @@ module _ {u : List ℕ} where
 
   pub lastWeekday-alike : Alike u 1 lastWeekday
   unfolding lastWeekday
-  lastWeekday-alike = then-local (byte-local 45 refl refl) (λ _. free (name-local weekday))
+  lastWeekday-alike = then-local (byte-local 45 refl refl) (λ _. free (named-local weekday))
 
   pub bracketed-alike : Alike u 1 bracketed
   unfolding bracketed
@@ -76,27 +77,27 @@ module _ {u : List ℕ} where
       then-local (byte-local 91 refl refl) (λ _. then-local (free entries-alike) (λ m.
       then-local (free (byte-local 93 refl refl)) (λ _. pure-local m)))
 
-  pub untilWeekday-alike : (first : ℕ) → Alike u 1 (untilWeekday first)
+  pub untilWeekday-alike : (first : Weekday) → Alike u 1 (untilWeekday first)
   unfolding untilWeekday
   untilWeekday-alike first = then-local lastWeekday-alike (λ last. pure-local _)
 
-  pub withEntries-alike : (first : ℕ) → Alike u 1 (withEntries first)
+  pub withEntries-alike : (first : Weekday) → Alike u 1 (withEntries first)
   unfolding withEntries
   withEntries-alike first = then-local bracketed-alike (λ m. then-local anyDays-alike (λ d. pure-local _))
 
-  narrowAfter-alike : (first : ℕ) → Alike u 0 (narrowAfter first)
+  narrowAfter-alike : (first : Weekday) → Alike u 0 (narrowAfter first)
   unfolding narrowAfter
   narrowAfter-alike first = or-local (free (untilWeekday-alike first)) (or-local (free (withEntries-alike first)) (pure-local _))
 
-  pub weekdayAfter-alike : (m : Manner) (first : ℕ) → Alike u 0 (weekdayAfter m first)
+  pub weekdayAfter-alike : (m : Manner) (first : Weekday) → Alike u 0 (weekdayAfter m first)
   unfolding wideAfter
   weekdayAfter-alike First first = narrowAfter-alike first
   weekdayAfter-alike House first = narrowAfter-alike first
-  weekdayAfter-alike Second first = then-local (maybe-local lastWeekday-alike first) (λ last. then-local (maybe-local bracketed-alike noMarks) (λ m. then-local anyDays-alike (λ d. pure-local _)))
+  weekdayAfter-alike Second first = then-local (maybe-local lastWeekday-alike (again first)) (λ last. then-local (maybe-local bracketed-alike noMarks) (λ m. then-local anyDays-alike (λ d. pure-local _)))
 
   pub weekdayShape-alike : (m : Manner) → Alike u 1 (weekdayShape m)
   unfolding weekdayShape
-  weekdayShape-alike m = then-local (name-local weekday) (weekdayAfter-alike m)
+  weekdayShape-alike m = then-local (named-local weekday) (weekdayAfter-alike m)
 
   pub holidayAfter-alike : (kind : ℕ) → Alike u 0 (holidayAfter kind)
   unfolding holidayAfter
@@ -107,14 +108,14 @@ module _ {u : List ℕ} where
   holidayShape-alike = then-local (name-local holiday) holidayAfter-alike
 
 -- the meanings refuse by 4 alone
-flagged-refuses : (first last : ℕ) (days : ℤ) (starts ends : ℕ) → Refuses (flagged first last days starts ends)
+flagged-refuses : (first last : Weekday) (days : ℤ) (starts ends : ℕ) → Refuses (flagged first last days starts ends)
 unfolding flagged
 flagged-refuses first last days starts ends = refuses-if (eqb starts 0 && eqb ends 0) (weekdaysOf first last days 31 31) (weekdaysOf first last days starts ends) tt tt
 
 pub weekday-refuses : (r : RawWeekdays) → Refuses (weekdayMeaning r)
 unfolding weekdayMeaning
 weekday-refuses r =
-    refuses-if (not (r.marks .good && goodDays r.days)) (Refused 4) (flagged r.first r.last (daysOf r.days) (bits (r.marks .starts)) (bits (r.marks .ends)))
+    refuses-if (not (r.marks .good && goodDays r.days)) (Refused 4) (flagged (r.first, r.«odd_first») (r.last, r.«odd_last») (daysOf r.days) (bits (r.marks .starts)) (bits (r.marks .ends)))
     (omega arith) (flagged-refuses _ _ _ _ _)
 
 pub holiday-refuses : (r : RawHoliday) → Refuses (holidayMeaning r)

@@ -5,6 +5,7 @@ use Rattle.names.specs.Read.{Reader, pure, _>>=_, _>>_, _or_, maybe}
 use Rattle.names.specs.Texts.{sign, blank}
 use Rattle.names.specs.Numbers.{count}
 use Rattle.names.specs.Names.{name, weekday, day}
+use Rattle.names.specs.Spellings.{named}
 use Rattle.records.specs.Items.{signed, goodCount}
 use lib.IntN.{ℤ}
 use Rattle.days.specs.declared.RawDays.{RawDays}
@@ -36,19 +37,19 @@ dayOffset = do
 unfoldable pub anyDays : Reader RawDays
 anyDays = maybe dayOffset noDays
 
--- `+Wd` or `-Wd`
-unfoldable pub wdayOffset : Reader ℤ
+-- `+Wd` or `-Wd`, and whether the name calls for a warning
+unfoldable pub wdayOffset : Reader (ℤ × Bool)
 wdayOffset = do
   negative ← plusOrMinus
-  w ← name weekday
-  pure (signed negative w)
+  w ← named weekday
+  pure (signed negative (w .0), w .1)
 
 -- an offset, or none
 unfoldable pub offset : Reader RawOffset
 offset = do
-  w ← maybe wdayOffset (signed false 0)
+  w ← maybe wdayOffset (signed false 0, false)
   d ← anyDays
-  pure (record { wday = w; days = d })
+  pure (record { wday = w .0; days = d; odd = w .1 })
 
 -- N from 0 to 32,767, either way
 abbrev pub goodDays : RawDays → Bool

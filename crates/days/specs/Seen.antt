@@ -35,8 +35,8 @@ abbrev pub seenDays : DaysRead → Read RawDays
 seenDays (days.Got x c) = got x (c .at)
 seenDays days.Missing = none
 
-abbrev pub seenWday : WdayRead → Read ℤ
-seenWday (wday.Got x c) = got x (c .at)
+abbrev pub seenWday : WdayRead → Read (ℤ × Bool)
+seenWday (wday.Got x odd c) = got (x, odd) (c .at)
 seenWday wday.Missing = none
 
 abbrev pub seenEntry : EntryRead → Read Entry
@@ -61,8 +61,8 @@ thenDays r = got r.days (r.next .at)
 abbrev pub thenWeekdays : WeekdaysThen → Read Meant
 thenWeekdays r = got r.meant (r.next .at)
 
-abbrev pub thenLast : LastThen → Read ℕ
-thenLast r = got r.last (r.next .at)
+abbrev pub thenLast : LastThen → Read (ℕ × Bool)
+thenLast r = got (r.last, r.odd) (r.next .at)
 
 abbrev pub thenMarks : MarksThen → Read Marks
 thenMarks r = got r.marks (r.next .at)

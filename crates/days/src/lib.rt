@@ -19,10 +19,11 @@ pub struct RawDays {
     pub n: u32,
 }
 
-// An offset as it is read: a weekday to go to, the previous where it is below 0, 0 none; and a number of days.
+// An offset as it is read: a weekday to go to, the previous where it is below 0, 0 none; a number of days; and whether the weekday's name calls for a warning.
 pub struct RawOffset {
     pub wday: i16,
     pub days: RawDays,
+    pub odd: bool,
 }
 
 // Which of a month's weekdays are meant: the first to the fifth.
@@ -48,12 +49,14 @@ pub struct Marks {
     pub good: bool,
 }
 
-// Weekdays as they are read.
+// Weekdays as they are read, and which of their names call for a warning.
 pub struct RawWeekdays {
     pub first: u8,
     pub last: u8,
     pub marks: Marks,
     pub days: RawDays,
+    pub odd_first: bool,
+    pub odd_last: bool,
 }
 
 // A holiday as it is read.
@@ -74,9 +77,9 @@ pub enum DaysRead {
     Missing,
 }
 
-// A weekday to go to, and the place after it; or none.
+// A weekday to go to, whether its name calls for a warning, and the place after it; or none.
 pub enum WdayRead {
-    Got(i16, Cursor),
+    Got(i16, bool, Cursor),
     Missing,
 }
 
@@ -116,9 +119,10 @@ pub struct WeekdaysThen {
     pub next: Cursor,
 }
 
-// The last weekday of a range, which may be the first, and the place after it.
+// The last weekday of a range, which may be the first; whether its name calls for a warning; and the place after it.
 pub struct LastThen {
     pub last: u8,
+    pub odd: bool,
     pub next: Cursor,
 }
 

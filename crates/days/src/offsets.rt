@@ -11,6 +11,7 @@ use crate::SignRead;
 use crate::WdayRead;
 use names::Cursor;
 use names::DAY;
+use names::Named;
 use names::Num;
 use names::Step;
 use names::WEEKDAY;
@@ -83,11 +84,11 @@ fn wday_offset(s: &[u8], c: Cursor) -> WdayRead
     let SignRead::Got(negative, d) = sign else {
         return WdayRead::Missing;
     };
-    let name = d.name(s, WEEKDAY);
-    let Num::Got(w, e) = name else {
+    let name = d.named(s, WEEKDAY);
+    let Named::Got(w, odd, e) = name else {
         return WdayRead::Missing;
     };
-    WdayRead::Got(signed(negative, w as u16), e)
+    WdayRead::Got(signed(negative, w as u16), odd, e)
 }
 
 // An offset, or none.
@@ -96,12 +97,12 @@ pub fn offset(s: &[u8], c: Cursor) -> OffsetThen
 {
     let first = wday_offset(s, c);
     match first {
-        WdayRead::Got(wday, d) => {
+        WdayRead::Got(wday, odd, d) => {
             let then = any_days(s, d);
             let days = then.days;
             let next = then.next;
             OffsetThen {
-                offset: RawOffset { wday, days },
+                offset: RawOffset { wday, days, odd },
                 next,
             }
         }
@@ -113,6 +114,7 @@ pub fn offset(s: &[u8], c: Cursor) -> OffsetThen
                 offset: RawOffset {
                     wday: 0,
                     days: alone,
+                    odd: false,
                 },
                 next: after,
             }

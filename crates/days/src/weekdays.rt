@@ -1,7 +1,10 @@
 // Weekday: `Wd`, `Wd-Wd`, or `Wd[entries]` with optional day offset. In the second edition `Wd` or `Wd-Wd`, each with optional `[entries]` and optional day offset.
+ghost use Prim.Native.Nat.{_≤_, _<_};
+ghost use mathlib.Core.Bool.{false};
 ghost use mathlib.Core.Path.{_≡_};
+ghost use lib.ListN.{length};
 ghost use Rattle.names.specs.Read.{maybe, map};
-ghost use Rattle.names.specs.Seen.{Reads};
+ghost use Rattle.names.specs.Seen.{ReadsName};
 ghost use Rattle.records.specs.Seen.{seenItem};
 ghost use Rattle.days.specs.Entries.{noMarks};
 ghost use Rattle.days.specs.Weekdays as weekdays;
@@ -18,6 +21,7 @@ use crate::entries::no_marks;
 use crate::offsets::any_days;
 use names::Cursor;
 use names::Manner;
+use names::Named;
 use names::Num;
 use names::RANGE;
 use names::Step;
@@ -33,8 +37,8 @@ use records::signed;
 const ALL: u8 = 31;
 
 // The meaning of weekdays without marks and days: all ten flags are set.
-fn plain(first: u8, last: u8) -> Meant
-    ensures { λ r. ⌜ r ≡ weekdays.weekdayMeaning (weekdays.plain first last) ⌝ }
+fn plain(first: u8, last: u8, odd_first: bool, odd_last: bool) -> Meant
+    ensures { λ r. ⌜ r ≡ weekdays.weekdayMeaning (weekdays.plain (first, «odd_first») (last, «odd_last»)) ⌝ }
 {
     Meant::Is(Item::Weekdays(WeekDayRange {
         first,
@@ -42,18 +46,20 @@ fn plain(first: u8, last: u8) -> Meant
         days: 0,
         starts: ALL,
         ends: ALL,
+        odd_first,
+        odd_last,
     }))
 }
 
 // `-Wd`
-fn last_weekday(s: &[u8], c: Cursor) -> Num
-    ensures { λ r. ⌜ Reads 12 (weekdays.lastWeekday (now (s .entry)) (c .at)) r ⌝ }
+fn last_weekday(s: &[u8], c: Cursor) -> Named
+    ensures { λ r. ⌜ ReadsName 12 (weekdays.lastWeekday (now (s .entry)) (c .at)) r ⌝ }
 {
     let minus = c.sign(s, b'-');
     let Step::Got(d) = minus else {
-        return Num::Missing;
+        return Named::Missing;
     };
-    d.name(s, WEEKDAY)
+    d.named(s, WEEKDAY)
 }
 
 // `[entries]`
@@ -76,8 +82,8 @@ fn bracketed(s: &[u8], c: Cursor) -> MarksRead
 }
 
 // After the first: `[entries]` with optional day offset.
-fn with_entries(s: &[u8], c: Cursor, first: u8) -> WeekdaysRead
-    ensures { λ r. ⌜ weekdays.withEntries first (now (s .entry)) (c .at) ≡ seenWeekdays r ⌝ }
+fn with_entries(s: &[u8], c: Cursor, first: u8, odd: bool) -> WeekdaysRead
+    ensures { λ r. ⌜ weekdays.withEntries (first, odd) (now (s .entry)) (c .at) ≡ seenWeekdays r ⌝ }
 {
     let inner = bracketed(s, c);
     let MarksRead::Got(marks, d) = inner else {
@@ -92,18 +98,20 @@ fn with_entries(s: &[u8], c: Cursor, first: u8) -> WeekdaysRead
             last: first,
             marks,
             days,
+            odd_first: odd,
+            odd_last: false,
         },
         next,
     )
 }
 
 // After the first, in the first edition: `-Wd`, or `[entries]` with optional day offset, or nothing.
-fn narrow_after(s: &[u8], c: Cursor, first: u8) -> WeekdaysThen
-    ensures { λ r. ⌜ map weekdays.weekdayMeaning (weekdays.narrowAfter first) (now (s .entry)) (c .at) ≡ thenWeekdays r ⌝ }
+fn narrow_after(s: &[u8], c: Cursor, first: u8, odd: bool) -> WeekdaysThen
+    ensures { λ r. ⌜ map weekdays.weekdayMeaning (weekdays.narrowAfter (first, odd)) (now (s .entry)) (c .at) ≡ thenWeekdays r ⌝ }
 {
     let name = last_weekday(s, c);
-    if let Num::Got(last, d) = name {
-        let range = plain(first, last as u8);
+    if let Named::Got(last, odd_last, d) = name {
+        let range = plain(first, last, odd, odd_last);
         return WeekdaysThen {
             meant: range,
             next: d,
@@ -112,13 +120,13 @@ fn narrow_after(s: &[u8], c: Cursor, first: u8) -> WeekdaysThen
     // Most weekdays have no marks: they are told before entries are read.
     let left = c.sign(s, b'[');
     let Step::Got(_) = left else {
-        let bare = plain(first, first);
+        let bare = plain(first, first, odd, false);
         return WeekdaysThen {
             meant: bare,
             next: c,
         };
     };
-    let marked = with_entries(s, c, first);
+    let marked = with_entries(s, c, first, odd);
     match marked {
         WeekdaysRead::Got(some, e) => {
             let judged = weekday_meaning(some);
@@ -128,7 +136,7 @@ fn narrow_after(s: &[u8], c: Cursor, first: u8) -> WeekdaysThen
             }
         }
         WeekdaysRead::Missing => {
-            let one = plain(first, first);
+            let one = plain(first, first, odd, false);
             WeekdaysThen {
                 meant: one,
                 next: c,
@@ -139,16 +147,14 @@ fn narrow_after(s: &[u8], c: Cursor, first: u8) -> WeekdaysThen
 
 // `-Wd`, or else the first weekday is the last.
 fn any_last(s: &[u8], c: Cursor, first: u8) -> LastThen
-    ensures { λ r. ⌜ maybe weekdays.lastWeekday first (now (s .entry)) (c .at) ≡ thenLast r ⌝ }
+    ensures { λ r. ⌜ maybe weekdays.lastWeekday (first, false) (now (s .entry)) (c .at) ≡ thenLast r ⌝ }
 {
     let name = last_weekday(s, c);
     match name {
-        Num::Got(last, d) => LastThen {
-            last: last as u8,
-            next: d,
-        },
-        Num::Missing => LastThen {
+        Named::Got(last, odd, d) => LastThen { last, odd, next: d },
+        Named::Missing => LastThen {
             last: first,
+            odd: false,
             next: c,
         },
     }
@@ -169,8 +175,8 @@ fn any_marks(s: &[u8], c: Cursor) -> MarksThen
 }
 
 // After the first, in the second edition: `-Wd` or none, `[entries]` or none, a day offset or none.
-fn wide_after(s: &[u8], c: Cursor, first: u8) -> WeekdaysThen
-    ensures { λ r. ⌜ map weekdays.weekdayMeaning (weekdays.wideAfter first) (now (s .entry)) (c .at) ≡ thenWeekdays r ⌝ }
+fn wide_after(s: &[u8], c: Cursor, first: u8, odd: bool) -> WeekdaysThen
+    ensures { λ r. ⌜ map weekdays.weekdayMeaning (weekdays.wideAfter (first, odd)) (now (s .entry)) (c .at) ≡ thenWeekdays r ⌝ }
 {
     let range = any_last(s, c, first);
     let marked = any_marks(s, range.next);
@@ -183,23 +189,33 @@ fn wide_after(s: &[u8], c: Cursor, first: u8) -> WeekdaysThen
         last: range.last,
         marks,
         days,
+        odd_first: odd,
+        odd_last: range.odd,
     });
     WeekdaysThen { meant, next }
 }
 
 // The shape after the first weekday, and its meaning.
-fn weekday_after(s: &[u8], m: Manner, c: Cursor, first: u8) -> WeekdaysThen
-    ensures { λ r. ⌜ map weekdays.weekdayMeaning (weekdays.weekdayAfter m first) (now (s .entry)) (c .at) ≡ thenWeekdays r ⌝ }
+fn weekday_after(s: &[u8], m: Manner, c: Cursor, first: u8, odd: bool) -> WeekdaysThen
+    ensures { λ r. ⌜ map weekdays.weekdayMeaning (weekdays.weekdayAfter m (first, odd)) (now (s .entry)) (c .at) ≡ thenWeekdays r ⌝ }
 {
     match m {
-        Manner::Second => wide_after(s, c, first),
-        _ => narrow_after(s, c, first),
+        Manner::Second => wide_after(s, c, first, odd),
+        _ => narrow_after(s, c, first, odd),
     }
 }
 
 // Weekdays with these flags; if no flag of the ten is set, all ten are.
-fn flagged(first: u8, last: u8, days: i16, starts: u8, ends: u8) -> Meant
-    ensures { λ r. ⌜ r ≡ weekdays.flagged first last days starts ends ⌝ }
+fn flagged(
+    first: u8,
+    last: u8,
+    days: i16,
+    starts: u8,
+    ends: u8,
+    odd_first: bool,
+    odd_last: bool,
+) -> Meant
+    ensures { λ r. ⌜ r ≡ weekdays.flagged (first, «odd_first») (last, «odd_last») days starts ends ⌝ }
 {
     if starts == 0 {
         if ends == 0 {
@@ -209,6 +225,8 @@ fn flagged(first: u8, last: u8, days: i16, starts: u8, ends: u8) -> Meant
                 days,
                 starts: ALL,
                 ends: ALL,
+                odd_first,
+                odd_last,
             }));
         }
     }
@@ -218,6 +236,8 @@ fn flagged(first: u8, last: u8, days: i16, starts: u8, ends: u8) -> Meant
         days,
         starts,
         ends,
+        odd_first,
+        odd_last,
     }))
 }
 
@@ -232,7 +252,15 @@ fn weekday_meaning(r: RawWeekdays) -> Meant
             let starts = m.starts;
             let ends = m.ends;
             let days = signed(d.negative, d.n as u16);
-            flagged(r.first, r.last, days, bits(starts), bits(ends))
+            flagged(
+                r.first,
+                r.last,
+                days,
+                bits(starts),
+                bits(ends),
+                r.odd_first,
+                r.odd_last,
+            )
         } else {
             Meant::Refused(RANGE)
         }
@@ -243,9 +271,12 @@ fn weekday_meaning(r: RawWeekdays) -> Meant
 
 // The item that begins at p, after its first weekday.
 pub fn weekday_item_after(s: &[u8], m: Manner, p: usize, c: Cursor, first: u8) -> ItemRead
+    requires { ⌜ p < c .at ⌝ }
+    requires { ⌜ c .at ≤ length (now s) ⌝ }
     ensures { λ r. ⌜ weekdays.weekdayItemAfter m p first (now (s .entry)) (c .at) ≡ seenItem r ⌝ }
 {
-    let shape = weekday_after(s, m, c, first);
+    let odd = Cursor { at: p }.odd(s, WEEKDAY, c);
+    let shape = weekday_after(s, m, c, first, odd);
     let meant = shape.meant;
     let next = shape.next;
     judged(p, meant, next)

@@ -1,12 +1,14 @@
 -- From what a call ensures and the case that a match found to facts of the definitions.
 use Prim.Native.Nat.{ℕ, _≤_}
+use mathlib.Core.Bool.{Bool}
 use mathlib.Core.Path.{_≡_, ap, _∙_, subst}
 use Rattle.names.specs.Read.{Read}
 use Rattle.names.specs.Names as names
-use Rattle.names.specs.Seen.{seenStep, seenNum, seenWord, value, Reads}
+use Rattle.names.specs.Seen.{seenStep, seenNum, seenWord, seenNamed, value, which, Reads, ReadsName}
 use Rattle.names.specs.declared.Step.{Step}
 use Rattle.names.specs.declared.Num.{Num}
 use Rattle.names.specs.declared.Word.{Word}
+use Rattle.names.specs.declared.Named as declared
 
 -- a number as a match found it: the definition m is what x says, and x's number is at most top
 pub record Was : Type 0 where
@@ -36,6 +38,17 @@ pub record Named : Type 0 where
 
 abbrev pub named : {m : Read names.Word} {r x : Word} → m ≡ seenWord r → r ≡ x → Named
 named {m} {r} {x} p e = record { m = m; x = x; is = p ∙ ap seenWord e }
+
+-- a name of a kind as a match found it
+pub record Called : Type 0 where
+  pub top : ℕ
+  pub m : Read (ℕ × Bool)
+  pub x : declared.Named
+  pub is : m ≡ seenNamed x
+  pub small : which x ≤ top
+
+abbrev pub called : {top : ℕ} {m : Read (ℕ × Bool)} {r x : declared.Named} → ReadsName top m r → r ≡ x → Called
+called {top} {m} {r} {x} p e = record { top = top; m = m; x = x; is = p .is ∙ ap seenNamed e; small = subst (λ (y : declared.Named). which y ≤ top) e (p .small) }
 
 -- any other answer as a match found it: the definition m is v
 pub record Said (A : Type 0) : Type 0 where

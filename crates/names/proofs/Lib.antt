@@ -17,5 +17,6 @@ pub mod Search
 pub mod Lists
 pub mod Longest
 pub mod Letters
+pub mod Odd
 pub mod OneAnswer
 pub mod Examples

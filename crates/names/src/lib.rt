@@ -64,6 +64,18 @@ pub enum Word {
     Missing,
 }
 
+// Which name of a kind stands at a place, whether it calls for a warning, and the place after it, or no such name.
+pub enum Named {
+    Got(u8, bool, Cursor),
+    Missing,
+}
+
+// The same of a name of any kind, with its kind first.
+pub enum Spelled {
+    Got(u8, u8, bool, Cursor),
+    Missing,
+}
+
 // How a name is written: all small, one capital and then small, or otherwise.
 pub enum Spelling {
     Small,

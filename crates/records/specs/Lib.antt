@@ -1,5 +1,6 @@
 pub mod Items
 pub mod Words
+pub mod Warnings
 pub mod Bytes
 pub mod Tables
 pub mod Seen

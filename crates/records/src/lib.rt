@@ -3,6 +3,7 @@ mod bytes;
 mod items;
 mod slots;
 mod tables;
+mod warnings;
 mod words;
 
 pub use bytes::put_word;
@@ -11,6 +12,7 @@ pub use items::signed;
 use names::Cursor;
 pub use tables::keep;
 pub use tables::keep_item;
+pub use warnings::warnings_in;
 
 // Years from first to last, each step'th.
 pub struct YearRange {
@@ -26,11 +28,13 @@ pub struct WeekRange {
     pub step: u16,
 }
 
-// Months from first to last, of a year or, where it is 0, of each.
+// Months from first to last, of a year or, where it is 0, of each; and which of their names call for a warning.
 pub struct MonthSpan {
     pub year: u16,
     pub first: u8,
     pub last: u8,
+    pub odd_first: bool,
+    pub odd_last: bool,
 }
 
 // What a date has beside its year: a month and a day; a month, a weekday and which one of the month, from its end where it is below 0; or easter.
@@ -52,21 +56,32 @@ pub struct DateOffset {
     pub days: i16,
 }
 
-// Dates from one to another.
+// Which names of a date call for a warning: its month or `easter`, its weekday, the weekday of its offset.
+pub struct Odd {
+    pub name: bool,
+    pub weekday: bool,
+    pub offset: bool,
+}
+
+// Dates from one to another, and which of their names call for a warning.
 pub struct DateSpan {
     pub start: Date,
     pub start_offset: DateOffset,
     pub end: Date,
     pub end_offset: DateOffset,
+    pub odd_start: Odd,
+    pub odd_end: Odd,
 }
 
-// Weekdays from first to last, a number of days later, and their flags from the month's start and from its end.
+// Weekdays from first to last, a number of days later, their flags from the month's start and from its end, and which of their names call for a warning.
 pub struct WeekDayRange {
     pub first: u8,
     pub last: u8,
     pub days: i16,
     pub starts: u8,
     pub ends: u8,
+    pub odd_first: bool,
+    pub odd_last: bool,
 }
 
 // A holiday, 1 public, 2 school, and a number of days.
@@ -90,13 +105,15 @@ pub enum Repeat {
     Every(u16),
 }
 
-// A span of times, whether its end is open (a plus), and whether it is a time alone.
+// A span of times, whether its end is open (a plus), whether it is a time alone, and which of its events call for a warning.
 pub struct Span {
     pub start: Time,
     pub end: Time,
     pub repeats: Repeat,
     pub open_end: bool,
     pub point: bool,
+    pub odd_start: bool,
+    pub odd_end: bool,
 }
 
 // An item of any kind.

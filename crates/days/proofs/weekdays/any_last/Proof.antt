@@ -1,11 +1,10 @@
 use borrow.Author.Needs.{needs}
-use native.Mathlib.Omega.{arith}
-use Rattle.names.proofs.Facts.{Was, was}
+use Rattle.names.proofs.Facts.{Called, called}
 use Rattle.days.proofs.weekdays.any_last.Statement.{statement}
 use Rattle.days.proofs.weekdays.any_last.Tie as tie
 
-abbrev name : tie.After-name → Was
-name c = was (c .before .before .last-weekday .ensures) (c .name .given .1)
+abbrev name : tie.After-name → Called
+name c = called (c .before .before .last-weekday .ensures) (c .name .given .1)
 
 pub any-last-spec : {M : Type 1} → statement M
 any-last-spec =
@@ -13,7 +12,6 @@ any-last-spec =
     (tie.spec
     (λ c κs. search needs)  -- last-weekday-requires
     (λ c. search needs)  -- enum-known-name
-    (λ c. omega (arith, name (c .before)))  -- cast
     (λ c. search needs)  -- enum-told
     (λ c. rw (name (c .before) .is))  -- returns
-    (λ c. rw (was (c .before .before .last-weekday .ensures) (c .enum-told .given .1) .is)))  -- returns-2
+    (λ c. rw (called (c .before .before .last-weekday .ensures) (c .enum-told .given .1) .is)))  -- returns-2

@@ -17,5 +17,5 @@ last-weekday-spec =
     (λ c. search needs)  -- enum-known-minus
     (λ c. search needs)  -- enum-told
     (λ c. record { is = rw (went (c .before .before .sign .ensures) (c .enum-told .given .1) .is); small = omega arith })  -- returns
-    (λ c κs. search needs)  -- name-requires
-    (λ c. record { is = rw (minus (c .before .before) .is) (c .name .ensures .is); small = c .name .ensures .small }))  -- returns-2
+    (λ c κs. search needs)  -- named-requires
+    (λ c. record { is = rw (minus (c .before .before) .is) (c .named .ensures .is); small = c .named .ensures .small }))  -- returns-2

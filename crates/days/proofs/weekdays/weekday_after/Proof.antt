@@ -18,4 +18,4 @@ weekday-after-spec =
     (λ c κs. search needs)  -- narrow-after-requires
     (λ c. rw (c .before .enum-told .given .1) (c .wide-after .ensures))  -- returns
     (λ c. let z = c .before .before .before in let a = z .args in let ends = c .narrow-after .ensures in
-    not-second (λ m. map weekdayMeaning (weekdayAfter m (a .first)) (now (a .s)) (a .c .at) ≡ thenWeekdays (c .narrow-after .result)) ends ends (a .m) (c .before .match .keys2)))  -- returns-2
+    not-second (λ m. map weekdayMeaning (weekdayAfter m (a .first, a .odd)) (now (a .s)) (a .c .at) ≡ thenWeekdays (c .narrow-after .result)) ends ends (a .m) (c .before .match .keys2)))  -- returns-2

@@ -1,8 +1,12 @@
 use borrow.Author.Needs.{needs}
 use mathlib.Core.Path.{_∙_}
+use denote.Ref.{now}
 use native.Mathlib.Omega.{arith}
 use Rattle.names.specs.Names.{weekday}
-use Rattle.names.specs.Names as names
+use Rattle.names.specs.Spellings.{named}
+use Rattle.names.proofs.Local.{past-one}
+use Rattle.names.proofs.NameCut.{name-local}
+use Rattle.names.proofs.Odd.{named-got, named-none}
 use Rattle.names.proofs.Facts.{Was, was}
 use Rattle.days.specs.Weekdays.{weekdayAfter, weekdayShape, weekdayMeaning, weekdayItem, weekdayItemAfter}
 use Rattle.records.proofs.Anywhere.{item-after}
@@ -20,8 +24,9 @@ weekday-item-spec =
     (λ c κs. search needs)  -- name-requires
     (λ c. search needs)  -- enum-known-name
     (λ c. search needs)  -- enum-told
-    (λ c. rw (was (c .before .before .name .ensures) (c .enum-told .given .1) .is))  -- returns
+    (λ c. let a = c .before .before .before .before .args in rw (named-none (now (a .s)) (a .c .at) weekday (was (c .before .before .name .ensures) (c .enum-told .given .1) .is)))  -- returns
     (λ c. omega (arith, name (c .before)))  -- cast-weekday-item-after
-    (λ c κs. search needs)  -- weekday-item-after-requires
-    (λ c. item-after (names.name weekday) (weekdayAfter (c .before .before .before .before .before .before .args .m)) weekdayMeaning (name (c .before .before) .is)
+    (λ c κs. past-one (name-local weekday) (name (c .before) .is))  -- weekday-item-after-requires
+    (λ c. let z = c .before .before .before .before .before .before in
+    item-after (named weekday) (weekdayAfter (z .args .m)) weekdayMeaning (named-got (now (z .args .s)) (z .args .c .at) weekday (name (c .before .before) .is))
     ∙ c .weekday-item-after .ensures))  -- returns-2

@@ -4,6 +4,8 @@ use mathlib.Core.Path.{_≡_, _∙_}
 use borrow.Author.Needs.{needs}
 use denote.Ref.{now}
 use Rattle.names.specs.Read.{Read, got, none, refused, Reader, follow, nothing, pure, map}
+use Rattle.names.specs.Names.{weekday}
+use Rattle.names.specs.Spellings.{odd}
 use Rattle.records.specs.Items.{judged, meant}
 use Rattle.records.specs.declared.Item.{Item}
 use Rattle.records.specs.declared.Meant.{Meant}
@@ -26,7 +28,9 @@ unfolding weekdayItemAfter
 weekday-item-after-spec =
     tie.close
     (tie.spec
+    (λ c κs. search needs)  -- odd-requires
     (λ c κs. search needs)  -- weekday-after-requires
     (λ c κs. search needs)  -- judged-requires
-    (λ c. let b = c .before .before in let a = b .before .before .args in
-    meant-as (a .p) (weekdayAfter (a .m) (a .first)) weekdayMeaning (now (a .s)) (a .c .at) (b .weekday-after .ensures) ∙ c .judged .ensures))  -- returns
+    (λ c. let b = c .before .before in let o = b .before in let a = o .before .before .args in
+    meant-as (a .p) (λ s i. weekdayAfter (a .m) (a .first, odd weekday s (a .p) i) s i) weekdayMeaning (now (a .s)) (a .c .at) (rw (o .odd .ensures) at (b .weekday-after .ensures))
+    ∙ c .judged .ensures))  -- returns
