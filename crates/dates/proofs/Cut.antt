@@ -8,11 +8,11 @@ use lib.Dec.{eqb, ltb}
 use lib.ListN.{length}
 use Rattle.names.specs.Tests.{if_then_else_}
 use Rattle.names.specs.Read.{Reader, _>>=_}
-use Rattle.names.specs.Names.{Word, word, weekday, month, easter}
+use Rattle.names.specs.Names.{Word, weekday, month, easter}
+use Rattle.names.specs.Spellings.{spelled}
 use Rattle.names.proofs.Local.{Stop, keep, LocalFrom, loose, free, nothing-local, pure-local, only-local, branch-local, here-then, bind-local, then-local, or-local, maybe-local}
 use Rattle.names.proofs.Cut.{byte-local, blank-local, year-local, count-local, ordinal-local, short-local}
-use Rattle.names.proofs.NameCut.{word-local, name-local}
-use Rattle.records.specs.declared.Day.{Day}
+use Rattle.names.proofs.Odd.{named-local, spelled-local}
 use Rattle.records.specs.declared.Day.the-variants.{Easter}
 use Rattle.records.specs.declared.Item.{Item}
 use Rattle.records.proofs.Cut.{Alike, Refuses, refuses-if, meant-alike, item-alike}
@@ -20,7 +20,7 @@ use Rattle.days.proofs.Cut.{offset-alike}
 use Rattle.dates.specs.Ranges.{stepped, untilLast, goodRange}
 use Rattle.dates.specs.Years.{yearAfter, yearShape, yearMeaning, yearItem}
 use Rattle.dates.specs.Weeks.{weekShape, weekMeaning, weekItem}
-use Rattle.dates.specs.Dates.{optionalYear, backNth, frontNth, nth, weekdayOf, dayOf, dayAfter, date, rawDate}
+use Rattle.dates.specs.Dates.{Spelt, optionalYear, backNth, frontNth, nth, weekdayOf, dayOf, dayAfter, date, rawDate}
 use Rattle.dates.specs.Ends.{untilDate, bareDay, until, endShape, datesAfter}
 use Rattle.dates.specs.Meanings.{dateMeaning, monthMeaning}
 use Rattle.dates.specs.MonthDays.{lastMonth, monthAfter, monthItemAfter, dateItemAfter, monthDayAfter, monthDayItem}
@@ -74,7 +74,7 @@ module _ {u : List ℕ} where
   pub weekdayOf-alike : (m : ℕ) → Alike u 1 (weekdayOf m)
   unfolding weekdayOf
   weekdayOf-alike m =
-      then-local (name-local weekday) (λ w. then-local (free (byte-local 91 refl refl)) (λ _.
+      then-local (named-local weekday) (λ w. then-local (free (byte-local 91 refl refl)) (λ _.
       then-local (free nth-alike) (λ n. then-local (free (byte-local 93 refl refl)) (λ _. pure-local _))))
 
   pub dayOf-alike : (m : ℕ) → Alike u 1 (dayOf m)
@@ -83,11 +83,11 @@ module _ {u : List ℕ} where
 
   pub dayAfter-alike : (w : Word) → Alike u 0 (dayAfter w)
   unfolding dayAfter
-  dayAfter-alike w = if-alike (eqb (w .0) easter) (pure-local Easter) (if-alike (eqb (w .0) month) (free (dayOf-alike (w .1))) nothing-local)
+  dayAfter-alike w = if-alike (eqb (w .0) easter) (pure-local (Easter, false)) (if-alike (eqb (w .0) month) (free (dayOf-alike (w .1))) nothing-local)
 
   pub date-alike : Alike u 1 date
   unfolding date
-  date-alike = loose (bind-local optionalYear-alike (λ y. then-local word-local (λ w. then-local (dayAfter-alike w) (λ d. pure-local _)))) (omega arith)
+  date-alike = loose (bind-local optionalYear-alike (λ y. then-local spelled-local (λ w. then-local (dayAfter-alike (w .0)) (λ d. pure-local _)))) (omega arith)
 
   pub untilDate-alike : Alike u 1 untilDate
   unfolding untilDate
@@ -111,11 +111,11 @@ module _ {u : List ℕ} where
 
   pub lastMonth-alike : (first : ℕ) → Alike u 0 (lastMonth first)
   unfolding lastMonth
-  lastMonth-alike first = maybe-local (then-local (byte-local 45 refl refl) (λ _. free (name-local month))) first
+  lastMonth-alike first = maybe-local (then-local (byte-local 45 refl refl) (λ _. free (named-local month))) (first, false)
 
-  pub monthAfter-alike : (y : Year) (first : ℕ) → Alike u 0 (monthAfter y first)
+  pub monthAfter-alike : (y : Year) (first : ℕ × Bool) → Alike u 0 (monthAfter y first)
   unfolding monthAfter
-  monthAfter-alike y first = then-local (lastMonth-alike first) (λ last. pure-local _)
+  monthAfter-alike y first = then-local (lastMonth-alike (first .0)) (λ last. pure-local _)
 
 -- the refusals of years and weeks have numbers
 pub year-refuses : (r : RawRange) → Refuses (yearMeaning r)
@@ -137,20 +137,20 @@ weekItem-alike = item-alike weekShape-alike weekMeaning week-refuses
 
 -- the items of a month-day list, p being where each begins
 module _ {u : List ℕ} where
-  pub monthItemAfter-alike : (p : ℕ) (y : Year) (w : Word) → LocalFrom p Stop keep u false false 0 (monthItemAfter (length u + p) y w) (monthItemAfter p y w)
+  pub monthItemAfter-alike : (p : ℕ) (y : Year) (w : Word × Bool) → LocalFrom p Stop keep u false false 0 (monthItemAfter (length u + p) y w) (monthItemAfter p y w)
   unfolding monthItemAfter
-  monthItemAfter-alike p y w = then-local (only-local (eqb (w .0) month)) (λ _. meant-alike (monthAfter-alike y (w .1)) monthMeaning month-refuses p)
+  monthItemAfter-alike p y w = then-local (only-local (eqb (w .0 .0) month)) (λ _. meant-alike (monthAfter-alike y (w .0 .1, w .1)) monthMeaning month-refuses p)
 
-  pub dateItemAfter-alike : (p : ℕ) (y : Year) (d : Day) → LocalFrom p Stop keep u false false 0 (dateItemAfter (length u + p) y d) (dateItemAfter p y d)
+  pub dateItemAfter-alike : (p : ℕ) (y : Year) (odd : Bool) (d : Spelt) → LocalFrom p Stop keep u false false 0 (dateItemAfter (length u + p) y odd d) (dateItemAfter p y odd d)
   unfolding dateItemAfter
-  dateItemAfter-alike p y d = meant-alike (datesAfter-alike (rawDate y d)) dateMeaning date-refuses p
+  dateItemAfter-alike p y odd d = meant-alike (datesAfter-alike (rawDate y odd d)) dateMeaning date-refuses p
 
-  pub monthDayAfter-alike : (p : ℕ) (y : Year) (w : Word) → LocalFrom p Stop keep u false false 0 (monthDayAfter (length u + p) y w) (monthDayAfter p y w)
+  pub monthDayAfter-alike : (p : ℕ) (y : Year) (w : Word × Bool) → LocalFrom p Stop keep u false false 0 (monthDayAfter (length u + p) y w) (monthDayAfter p y w)
   unfolding monthDayAfter
-  monthDayAfter-alike p y w = branch-local {k = 0} {l = 0} (dayAfter-alike w) (dateItemAfter-alike p y) (monthItemAfter-alike p y w)
+  monthDayAfter-alike p y w = branch-local {k = 0} {l = 0} (dayAfter-alike (w .0)) (dateItemAfter-alike p y (w .1)) (monthItemAfter-alike p y w)
 
   pub monthDayItem-alike : Alike u 1 monthDayItem
   unfolding monthDayItem
   monthDayItem-alike =
-      let f : ℕ → Reader Item = λ p. optionalYear >>= λ y. word >>= λ w. monthDayAfter p y w in
-      here-then f f (λ p. bind-local optionalYear-alike (λ y. then-local word-local (monthDayAfter-alike p y)))
+      let f : ℕ → Reader Item = λ p. optionalYear >>= λ y. spelled >>= λ w. monthDayAfter p y w in
+      here-then f f (λ p. bind-local optionalYear-alike (λ y. then-local spelled-local (monthDayAfter-alike p y)))

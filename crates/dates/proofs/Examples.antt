@@ -10,6 +10,7 @@ use Rattle.names.specs.Chain.{chainIn, chain, many, skip}
 use Rattle.names.specs.Texts.{bytes, byte, allOf, blanks, blank}
 use Rattle.names.specs.Numbers.{isDigit, digit, upTo, digits, clockAfter, number}
 use Rattle.names.specs.Names.{names, spelledSo, lower, letter, firstOf, word, name}
+use Rattle.names.specs.Spellings.{allSmall, spellingBy, spelt, warns, odd, named, spelled}
 use Rattle.calendar.specs.Calendar.{leap, lastOfFebruary, hasThirty, lastOf, isDay}
 use Rattle.records.specs.Items.{signed}
 use lib.IntN.{ℤ}
@@ -25,7 +26,7 @@ use Rattle.dates.specs.Weeks.{weekShape, weekMeaning, weekItem}
 use Rattle.dates.specs.Dates.{optionalYear, backNth, frontNth, nth, weekdayOf, dayOf, dayAfter, date}
 use Rattle.dates.specs.Ends.{untilDate, bareDay, until, endShape, datesAfter}
 use Rattle.dates.specs.BareEnds.{dateOf, nextYear, nextMonth, monthFrom, firstWith, bareEnd, lastDay}
-use Rattle.dates.specs.Meanings.{noOffset, goodNth, dateMeaning, monthMeaning}
+use Rattle.dates.specs.Meanings.{noOffset, noOdd, goodNth, dateMeaning, monthMeaning}
 use Rattle.dates.specs.MonthDays.{lastMonth, monthAfter, monthItemAfter, dateItemAfter, monthDayAfter, monthDayItem}
 
 -- years and weeks from first to last, each step'th
@@ -89,7 +90,7 @@ weeks-right = refl
 
 -- months of a year or of each, from first to last
 months : ℕ → ℕ → ℕ → Item
-months year first last = Months (record { year = year; first = first; last = last })
+months year first last = Months (record { year = year; first = first; last = last; «odd_first» = false; «odd_last» = false })
 
 -- a day of a month of a year, or of each
 on : ℕ → ℕ → ℕ → Date
@@ -101,7 +102,8 @@ by wday days = record { wday = wday; days = days }
 
 -- dates from one to another, with their offsets, and with none
 moved : Date → DateOffset → Date → DateOffset → Item
-moved start before end after = Dates (record { start = start; «start_offset» = before; end = end; «end_offset» = after })
+moved start before end after =
+    Dates (record { start = start; «start_offset» = before; end = end; «end_offset» = after; «odd_start» = noOdd; «odd_end» = noOdd })
 
 dates : Date → Date → Item
 dates start end = moved start noOffset end noOffset
@@ -137,6 +139,6 @@ monthDayTexts =
 month-days-right : map (λ e. monthDayItem (bytes (e .0)) (e .1 .0)) monthDayTexts ≡ map (λ e. e .1 .1) monthDayTexts
 unfolding monthDayTexts months on by moved dates monthDayItem monthDayAfter dateItemAfter monthItemAfter monthAfter lastMonth monthMeaning dateMeaning lastDay bareEnd firstWith goodNth
     monthFrom nextMonth nextYear isDay lastOf lastOfFebruary hasThirty leap datesAfter endShape until bareDay untilDate date dayAfter dayOf weekdayOf nth frontNth backNth
-    optionalYear offset wdayOffset anyDays dayOffset plusOrMinus name word firstOf names allOf letter spelledSo lower number digits upTo digit isDigit within clockAfter skip many
-    chain chainIn blank blanks byte one ahead
+    optionalYear offset wdayOffset anyDays dayOffset plusOrMinus spelled named odd warns spelt spellingBy allSmall name word firstOf names allOf letter spelledSo lower number
+    digits upTo digit isDigit within clockAfter skip many chain chainIn blank blanks byte one ahead
 month-days-right = refl

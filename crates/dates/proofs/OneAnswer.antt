@@ -1,5 +1,6 @@
 -- No second answer meets a promise: an answer is known by what it says.
-use mathlib.Core.Path.{_≡_, refl}
+use mathlib.Core.Path.{_≡_, refl, ap}
+use Rattle.dates.specs.Dates.{Spelt}
 use Rattle.dates.specs.Seen.{seenDay, seenDate, thenRange, thenStep, thenYear, thenDates}
 use Rattle.dates.specs.declared.DayRead.{DayRead}
 use Rattle.dates.specs.declared.DayRead.the-variants as day
@@ -11,9 +12,10 @@ use Rattle.dates.specs.declared.YearThen.{YearThen}
 use Rattle.dates.specs.declared.DatesThen.{DatesThen}
 
 pub day-one-answer : (x y : DayRead) → seenDay x ≡ seenDay y → x ≡ y
-day-one-answer (day.Got a c) (day.Got b d) e = let h : c .at ≡ d .at = cc in let k : a ≡ b = cc in rw (k, h)
-day-one-answer (day.Got a c) day.Missing e = cc
-day-one-answer day.Missing (day.Got b d) e = cc
+day-one-answer (day.Got a o c) (day.Got b p d) e =
+    let h : c .at ≡ d .at = cc in let k : _≡_ {A = Spelt} (a, o) (b, p) = cc in rw (ap (λ (x : Spelt). x .0) k, ap (λ (x : Spelt). x .1) k, h)
+day-one-answer (day.Got a o c) day.Missing e = cc
+day-one-answer day.Missing (day.Got b p d) e = cc
 day-one-answer day.Missing day.Missing e = refl
 
 pub date-one-answer : (x y : DateRead) → seenDate x ≡ seenDate y → x ≡ y

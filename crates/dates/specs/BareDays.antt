@@ -1,6 +1,6 @@
 -- What is proved of a bare end day, in the user's words: it is a day of the calendar with that number, not before the start, and no such day lies between.
 use Prim.Native.Nat.{ℕ, _+_, _*_, _≤_, _<_}
-use mathlib.Core.Bool.{true}
+use mathlib.Core.Bool.{Bool, true, false}
 use mathlib.Core.List.{List}
 use mathlib.Core.Path.{_≡_}
 use Rattle.names.specs.Read.{got}
@@ -69,8 +69,9 @@ pub record BareRead (s : List ℕ) (p : ℕ) (y : Year) (m d e : ℕ) : Type 0 w
   pub next : ℕ
   pub offset : RawOffset
   pub offset-end : RawOffset
-  pub start : date s p ≡ got (rawDate y (Fixed m d)) after
-  pub rest : datesAfter (rawDate y (Fixed m d)) s after ≡ got (record { date = rawDate y (Fixed m d); offset = offset; end = Bare e offset-end }) next
+  pub odd : Bool
+  pub start : date s p ≡ got (rawDate y odd (Fixed m d, false)) after
+  pub rest : datesAfter (rawDate y odd (Fixed m d, false)) s after ≡ got (record { date = rawDate y odd (Fixed m d, false); offset = offset; end = Bare e offset-end }) next
 
 -- the item that such a text is read as
 pub record BareItem (y : Year) (m d e : ℕ) (x : Item) : Type 0 where

@@ -10,6 +10,7 @@ use Rattle.records.specs.declared.Day.{Day}
 use Rattle.records.specs.declared.Day.the-variants.{Fixed, Weekday, Easter}
 use Rattle.records.specs.declared.Date.{Date}
 use Rattle.records.specs.declared.DateOffset.{DateOffset}
+use Rattle.records.specs.declared.Odd.{Odd}
 use Rattle.records.specs.declared.Item.the-variants.{Dates, Months}
 use Rattle.records.specs.declared.Meant.{Meant}
 use Rattle.records.specs.declared.Meant.the-variants.{Is, Refused}
@@ -76,27 +77,41 @@ offsetOf o = record { wday = o.wday; days = daysOf o.days }
 abbrev pub noOffset : DateOffset
 noOffset = record { wday = signed false 0; days = signed false 0 }
 
--- dates from one to another
-abbrev pub dates : Date → DateOffset → Date → DateOffset → Meant
-dates d o e p = Is (Dates (record { start = d; «start_offset» = o; end = e; «end_offset» = p }))
+-- which names of a date and its offset call for a warning
+abbrev pub oddOf : RawDate → RawOffset → Odd
+oddOf d o = record { name = d.«odd_name»; weekday = d.«odd_weekday»; offset = o.odd }
+
+-- of a bare day, which has no name, and its offset
+abbrev pub bareOdd : RawOffset → Odd
+bareOdd o = record { name = false; weekday = false; offset = o.odd }
+
+-- of an end that is not written
+abbrev pub noOdd : Odd
+noOdd = record { name = false; weekday = false; offset = false }
+
+-- dates from one to another, and which names of each call for a warning
+abbrev pub dates : Date → DateOffset → Date → DateOffset → Odd → Odd → Meant
+dates d o e p x y = Is (Dates (record { start = d; «start_offset» = o; end = e; «end_offset» = p; «odd_start» = x; «odd_end» = y }))
 
 -- a bare day after a start of each form: after a fixed date by the calendar, after a weekday date its month and year, after easter refused
-abbrev pub bare : Date → DateOffset → ℕ → DateOffset → Day → Meant
-bare s o e p (Fixed m d) = dates s o (bareEnd (yearMonth s.year m) d e) p
-bare s o e p (Weekday m w n) = dates s o (dateOf s.year (Fixed m e)) p
-bare s o e p Easter = Refused easterDay
+abbrev pub bare : Date → DateOffset → ℕ → DateOffset → Odd → Odd → Day → Meant
+bare s o e p x y (Fixed m d) = dates s o (bareEnd (yearMonth s.year m) d e) p x y
+bare s o e p x y (Weekday m w n) = dates s o (dateOf s.year (Fixed m e)) p x y
+bare s o e p x y Easter = Refused easterDay
 
 -- from a start to each kind of end: no end is the start with its offset
-abbrev pub ended : Date → DateOffset → RawEnd → Meant
-ended s o Nothing = dates s o s o
-ended s o Plus = dates s o (lastDay s.year) noOffset
-ended s o (Until e p) = dates s o (dated e) (offsetOf p)
-ended s o (Bare e p) = bare s o e (offsetOf p) s.day
+abbrev pub ended : Date → DateOffset → Odd → RawEnd → Meant
+ended s o x Nothing = dates s o s o x noOdd
+ended s o x Plus = dates s o (lastDay s.year) noOffset x noOdd
+ended s o x (Until e p) = dates s o (dated e) (offsetOf p) x (oddOf e p)
+ended s o x (Bare e p) = bare s o e (offsetOf p) x (bareOdd p) s.day
 
 -- the meaning of a date item
 unfoldable pub dateMeaning : RawDates → Meant
-dateMeaning r = if not (goodDates r) then Refused range else ended (dated r.date) (offsetOf r.offset) r.end
+dateMeaning r = if not (goodDates r) then Refused range else ended (dated r.date) (offsetOf r.offset) (oddOf r.date r.offset) r.end
 
 -- the meaning of months, which go round: only the year is judged
 unfoldable pub monthMeaning : RawMonths → Meant
-monthMeaning r = if not (goodYears r.year) then Refused range else Is (Months (record { year = yearOf r.year; first = r.first; last = r.last }))
+monthMeaning r =
+    if not (goodYears r.year) then Refused range
+    else Is (Months (record { year = yearOf r.year; first = r.first; last = r.last; «odd_first» = r.«odd_first»; «odd_last» = r.«odd_last» }))

@@ -2,7 +2,7 @@
 use Prim.Native.Nat.{ℕ}
 use Rattle.names.specs.Read.{Read, got, none}
 use lib.IntN.{ℤ}
-use Rattle.records.specs.declared.Day.{Day}
+use Rattle.dates.specs.Dates.{Spelt}
 use Rattle.dates.specs.declared.Year.{Year}
 use Rattle.dates.specs.declared.RawRange.{RawRange}
 use Rattle.dates.specs.declared.RawDate.{RawDate}
@@ -32,8 +32,8 @@ abbrev pub seenNth : NthRead → Read ℤ
 seenNth (nth.Got x c) = got x (c .at)
 seenNth nth.Missing = none
 
-abbrev pub seenDay : DayRead → Read Day
-seenDay (day.Got x c) = got x (c .at)
+abbrev pub seenDay : DayRead → Read Spelt
+seenDay (day.Got x odd c) = got (x, odd) (c .at)
 seenDay day.Missing = none
 
 abbrev pub seenDate : DateRead → Read RawDate

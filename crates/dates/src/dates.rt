@@ -11,10 +11,11 @@ use crate::YearThen;
 use names::Cursor;
 use names::EASTER;
 use names::MONTH;
+use names::Named;
 use names::Num;
+use names::Spelled;
 use names::Step;
 use names::WEEKDAY;
-use names::Word;
 use records::Day;
 use records::signed;
 
@@ -81,8 +82,8 @@ fn nth(s: &[u8], c: Cursor) -> NthRead
 fn weekday_of(s: &[u8], c: Cursor, month: u8) -> DayRead
     ensures { λ r. ⌜ dates.weekdayOf month (now (s .entry)) (c .at) ≡ seenDay r ⌝ }
 {
-    let name = c.name(s, WEEKDAY);
-    let Num::Got(w, d) = name else {
+    let name = c.named(s, WEEKDAY);
+    let Named::Got(w, odd, d) = name else {
         return DayRead::Missing;
     };
     let left = d.sign(s, b'[');
@@ -97,7 +98,7 @@ fn weekday_of(s: &[u8], c: Cursor, month: u8) -> DayRead
     let Step::Got(g) = right else {
         return DayRead::Missing;
     };
-    DayRead::Got(Day::Weekday(month, w as u8, n), g)
+    DayRead::Got(Day::Weekday(month, w, n), odd, g)
 }
 
 // After a month: a blank, and `D` or a weekday.
@@ -110,7 +111,7 @@ fn day_of(s: &[u8], c: Cursor, month: u8) -> DayRead
     };
     let number = d.short(s);
     match number {
-        Num::Got(n, e) => DayRead::Got(Day::Fixed(month, n as u8), e),
+        Num::Got(n, e) => DayRead::Got(Day::Fixed(month, n as u8), false, e),
         Num::Missing => weekday_of(s, d, month),
     }
 }
@@ -120,7 +121,7 @@ pub fn day_after(s: &[u8], c: Cursor, kind: u8, value: u8) -> DayRead
     ensures { λ r. ⌜ dates.dayAfter (kind, value) (now (s .entry)) (c .at) ≡ seenDay r ⌝ }
 {
     if kind == EASTER {
-        return DayRead::Got(Day::Easter, c);
+        return DayRead::Got(Day::Easter, false, c);
     }
     if kind == MONTH {
         return day_of(s, c, value);
@@ -134,13 +135,21 @@ pub fn date(s: &[u8], c: Cursor) -> DateRead
 {
     let y = optional_year(s, c);
     let year = y.year;
-    let name = y.next.word(s);
-    let Word::Got(kind, value, d) = name else {
+    let name = y.next.spelled(s);
+    let Spelled::Got(kind, value, odd_name, d) = name else {
         return DateRead::Missing;
     };
     let rest = day_after(s, d, kind, value);
-    let DayRead::Got(day, e) = rest else {
+    let DayRead::Got(day, odd_weekday, e) = rest else {
         return DateRead::Missing;
     };
-    DateRead::Got(RawDate { year, day }, e)
+    DateRead::Got(
+        RawDate {
+            year,
+            day,
+            odd_name,
+            odd_weekday,
+        },
+        e,
+    )
 }

@@ -36,17 +36,21 @@ pub struct RawRange {
     pub step: u32,
 }
 
-// Months as they are read.
+// Months as they are read, and which of their names call for a warning.
 pub struct RawMonths {
     pub year: Year,
     pub first: u8,
     pub last: u8,
+    pub odd_first: bool,
+    pub odd_last: bool,
 }
 
-// A date as it is read.
+// A date as it is read, and whether its month or `easter` and its weekday call for a warning.
 pub struct RawDate {
     pub year: Year,
     pub day: Day,
+    pub odd_name: bool,
+    pub odd_weekday: bool,
 }
 
 // How a date item ends, as it is read: nothing after its start, a plus, a date, or a day alone.
@@ -94,9 +98,9 @@ pub enum NthRead {
     Missing,
 }
 
-// What reading a date without its year finds.
+// What reading a date without its year finds: the date, whether its weekday's name calls for a warning, and the place after it.
 pub enum DayRead {
-    Got(Day, Cursor),
+    Got(Day, bool, Cursor),
     Missing,
 }
 

@@ -23,6 +23,7 @@ use records::Day;
 use records::Item;
 use records::Meant;
 use records::MonthSpan;
+use records::Odd;
 use records::signed;
 
 // A year that is there is in range.
@@ -148,62 +149,111 @@ fn offset_of(o: RawOffset) -> DateOffset
     DateOffset { wday, days }
 }
 
-// Dates from one to another.
-fn dates_of(start: Date, before: DateOffset, end: Date, after: DateOffset) -> Meant
-    ensures { λ r. ⌜ r ≡ meanings.dates start before end after ⌝ }
+// Which names of a date and its offset call for a warning.
+fn odd_of(d: RawDate, o: RawOffset) -> Odd
+    ensures { λ r. ⌜ r ≡ meanings.oddOf d o ⌝ }
+{
+    Odd {
+        name: d.odd_name,
+        weekday: d.odd_weekday,
+        offset: o.odd,
+    }
+}
+
+// Of a bare day, which has no name, and its offset.
+fn bare_odd(o: RawOffset) -> Odd
+    ensures { λ r. ⌜ r ≡ meanings.bareOdd o ⌝ }
+{
+    Odd {
+        name: false,
+        weekday: false,
+        offset: o.odd,
+    }
+}
+
+// Of an end that is not written.
+fn no_odd() -> Odd
+    ensures { λ r. ⌜ r ≡ meanings.noOdd ⌝ }
+{
+    Odd {
+        name: false,
+        weekday: false,
+        offset: false,
+    }
+}
+
+// Dates from one to another, and which names of each call for a warning.
+fn dates_of(
+    start: Date,
+    before: DateOffset,
+    end: Date,
+    after: DateOffset,
+    odd_start: Odd,
+    odd_end: Odd,
+) -> Meant
+    ensures { λ r. ⌜ r ≡ meanings.dates start before end after «odd_start» «odd_end» ⌝ }
 {
     Meant::Is(Item::Dates(DateSpan {
         start,
         start_offset: before,
         end,
         end_offset: after,
+        odd_start,
+        odd_end,
     }))
 }
 
 // A bare day after a start of each form: after a fixed date by the calendar, after a weekday date its month and year, after easter refused.
-fn bare(start: Date, before: DateOffset, e: u8, after: DateOffset) -> Meant
+fn bare(
+    start: Date,
+    before: DateOffset,
+    e: u8,
+    after: DateOffset,
+    odd_start: Odd,
+    odd_end: Odd,
+) -> Meant
     requires { ⌜ start .year ≤ 9999 ⌝ }
-    ensures { λ r. ⌜ r ≡ meanings.bare start before e after (start .day) ⌝ }
+    ensures { λ r. ⌜ r ≡ meanings.bare start before e after «odd_start» «odd_end» (start .day) ⌝ }
 {
     let year = start.year;
     let day = start.day;
     match day {
         Day::Fixed(m, d) => {
             let end = bare_end(YearMonth { year, month: m }, d, e);
-            dates_of(start, before, end, after)
+            dates_of(start, before, end, after, odd_start, odd_end)
         }
         Day::Weekday(m, _, _) => {
             let same = Date {
                 year,
                 day: Day::Fixed(m, e),
             };
-            dates_of(start, before, same, after)
+            dates_of(start, before, same, after, odd_start, odd_end)
         }
         Day::Easter => Meant::Refused(EASTER_DAY),
     }
 }
 
 // From a start to each kind of end: no end is the start with its offset.
-fn ended(start: Date, before: DateOffset, end: RawEnd) -> Meant
+fn ended(start: Date, before: DateOffset, odd: Odd, end: RawEnd) -> Meant
     requires { ⌜ start .year ≤ 9999 ⌝ }
     requires { ⌜ meanings.goodEnd end ≡ true ⌝ }
-    ensures { λ r. ⌜ r ≡ meanings.ended start before end ⌝ }
+    ensures { λ r. ⌜ r ≡ meanings.ended start before odd end ⌝ }
 {
     match end {
-        RawEnd::Nothing => dates_of(start, before, start, before),
+        RawEnd::Nothing => dates_of(start, before, start, before, odd, no_odd()),
         RawEnd::Plus => {
             let last = last_day(start.year);
             let none = DateOffset { wday: 0, days: 0 };
-            dates_of(start, before, last, none)
+            dates_of(start, before, last, none, odd, no_odd())
         }
         RawEnd::Until(e, p) => {
             let until = dated(e);
             let after = offset_of(p);
-            dates_of(start, before, until, after)
+            dates_of(start, before, until, after, odd, odd_of(e, p))
         }
         RawEnd::Bare(e, p) => {
             let after = offset_of(p);
-            bare(start, before, e, after)
+            bare(start, before, e, after, odd, bare_odd(p))
         }
     }
 }
@@ -218,7 +268,8 @@ pub fn date_meaning(r: RawDates) -> Meant
         let e = r.end;
         let start = dated(d);
         let before = offset_of(o);
-        ended(start, before, e)
+        let odd = odd_of(d, o);
+        ended(start, before, odd, e)
     } else {
         Meant::Refused(RANGE)
     }
@@ -235,6 +286,8 @@ pub fn month_meaning(r: RawMonths) -> Meant
             year,
             first: r.first,
             last: r.last,
+            odd_first: r.odd_first,
+            odd_last: r.odd_last,
         }))
     } else {
         Meant::Refused(RANGE)

@@ -1,22 +1,28 @@
 use borrow.Author.Needs.{needs}
+use mathlib.Core.Bool.{Bool}
 use mathlib.Core.Path.{ap}
-use Rattle.names.proofs.Facts.{Named, named, Said, said}
-use Rattle.records.specs.declared.Day.{Day}
+use Rattle.names.specs.Names.{Word}
+use Rattle.names.specs.Seen.{seenSpelled}
+use Rattle.names.proofs.Facts.{Said, said}
 use Rattle.dates.specs.Seen.{seenDay}
-use Rattle.dates.specs.Dates.{date}
+use Rattle.dates.specs.Dates.{Spelt, date}
 use Rattle.dates.proofs.dates.date.Statement.{statement}
 use Rattle.dates.proofs.dates.date.Tie as tie
 
-abbrev name : tie.After-name → Named
-name c = named (c .before .before .word .ensures) (c .name .given .1)
+-- the name, and whether it calls for a warning
+abbrev Name : Type 0
+Name = Said (Word × Bool)
 
-abbrev no-name : tie.After-enum-told → Named
-no-name c = named (c .before .before .word .ensures) (c .enum-told .given .1)
+abbrev name : tie.After-name → Name
+name c = said (c .before .before .spelled .ensures) (ap seenSpelled (c .name .given .1))
 
-abbrev rest : tie.After-rest → Named × Said Day
+abbrev no-name : tie.After-enum-told → Name
+no-name c = said (c .before .before .spelled .ensures) (ap seenSpelled (c .enum-told .given .1))
+
+abbrev rest : tie.After-rest → Name × Said Spelt
 rest c = (name (c .before .before .before .before), said (c .before .before .day-after .ensures) (ap seenDay (c .rest .given .1)))
 
-abbrev no-rest : tie.After-enum-told2 → Named × Said Day
+abbrev no-rest : tie.After-enum-told2 → Name × Said Spelt
 no-rest c = (name (c .before .before .before .before), said (c .before .before .day-after .ensures) (ap seenDay (c .enum-told2 .given .1)))
 
 pub date-spec : {M : Type 1} → statement M
@@ -25,7 +31,7 @@ date-spec =
     tie.close
     (tie.spec
     (λ c κs. search needs)  -- optional-year-requires
-    (λ c κs. search needs)  -- word-requires
+    (λ c κs. search needs)  -- spelled-requires
     (λ c. search needs)  -- enum-known-name
     (λ c. search needs)  -- enum-told
     (λ c. rw (c .before .before .before .optional-year .ensures, no-name c .is))  -- returns

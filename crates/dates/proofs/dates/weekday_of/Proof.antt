@@ -1,7 +1,6 @@
 use borrow.Author.Needs.{needs}
-use native.Mathlib.Omega.{arith}
 use mathlib.Core.Path.{ap}
-use Rattle.names.proofs.Facts.{Was, was, Went, went, Said, said}
+use Rattle.names.proofs.Facts.{Called, called, Went, went, Said, said}
 use lib.IntN.{ℤ}
 use Rattle.records.proofs.Laws.{half-fits}
 use Rattle.dates.specs.Seen.{seenNth}
@@ -9,28 +8,28 @@ use Rattle.dates.specs.Dates.{weekdayOf}
 use Rattle.dates.proofs.dates.weekday_of.Statement.{statement}
 use Rattle.dates.proofs.dates.weekday_of.Tie as tie
 
-abbrev name : tie.After-name2 → Was
-name c = was (c .before .before .name .ensures) (c .name2 .given .1)
+abbrev name : tie.After-name → Called
+name c = called (c .before .before .named .ensures) (c .name .given .1)
 
-abbrev no-name : tie.After-enum-told → Was
-no-name c = was (c .before .before .name .ensures) (c .enum-told .given .1)
+abbrev no-name : tie.After-enum-told → Called
+no-name c = called (c .before .before .named .ensures) (c .enum-told .given .1)
 
-abbrev left : tie.After-left → Was × Went
+abbrev left : tie.After-left → Called × Went
 left c = (name (c .before .before .before .before), went (c .before .before .sign .ensures) (c .left .given .1))
 
-abbrev no-left : tie.After-enum-told2 → Was × Went
+abbrev no-left : tie.After-enum-told2 → Called × Went
 no-left c = (name (c .before .before .before .before), went (c .before .before .sign .ensures) (c .enum-told2 .given .1))
 
-abbrev number : tie.After-number → (Was × Went) × Said ℤ
+abbrev number : tie.After-number → (Called × Went) × Said ℤ
 number c = (left (c .before .before .before .before), said (c .before .before .nth .ensures) (ap seenNth (c .number .given .1)))
 
-abbrev no-number : tie.After-enum-told3 → (Was × Went) × Said ℤ
+abbrev no-number : tie.After-enum-told3 → (Called × Went) × Said ℤ
 no-number c = (left (c .before .before .before .before), said (c .before .before .nth .ensures) (ap seenNth (c .enum-told3 .given .1)))
 
-abbrev right : tie.After-right → ((Was × Went) × Said ℤ) × Went
+abbrev right : tie.After-right → ((Called × Went) × Said ℤ) × Went
 right c = (number (c .before .before .before .before), went (c .before .before .sign2 .ensures) (c .right .given .1))
 
-abbrev no-right : tie.After-enum-told4 → ((Was × Went) × Said ℤ) × Went
+abbrev no-right : tie.After-enum-told4 → ((Called × Went) × Said ℤ) × Went
 no-right c = (number (c .before .before .before .before), went (c .before .before .sign2 .ensures) (c .enum-told4 .given .1))
 
 pub weekday-of-spec : {M : Type 1} → statement M
@@ -38,7 +37,7 @@ unfolding weekdayOf
 weekday-of-spec =
     tie.close
     (tie.spec
-    (λ c κs. search needs)  -- name-requires
+    (λ c κs. search needs)  -- named-requires
     (λ c. search needs)  -- enum-known-name
     (λ c. search needs)  -- enum-told
     (λ c. rw (no-name c .is))  -- returns
@@ -54,6 +53,5 @@ weekday-of-spec =
     (λ c. search needs)  -- enum-known-right
     (λ c. search needs)  -- enum-told-4
     (λ c. let w = no-right c in rw (w .0 .0 .0 .is, w .0 .0 .1 .is, w .0 .1 .is, w .1 .is))  -- returns-4
-    (λ c. let w = right (c .before) .0 .0 .0 in omega arith)  -- cast-t14
     (λ c. let w = right (c .before) in let n = c .before .before .before .before in
     rw (w .0 .0 .0 .is, w .0 .0 .1 .is, w .0 .1 .is, w .1 .is, half-fits (n .before .number .given .0 .0) (n .known-told3 .given .0 .1))))  -- returns-5

@@ -16,5 +16,5 @@ date-item-after-spec =
     (λ c κs. search needs)  -- date-meaning-requires
     (λ c κs. search needs)  -- judged-requires
     (λ c. let a = c .before .before .before .before .before .before .args in
-    meant-is (a .p) (datesAfter (rawDate (a .year) (a .day))) dateMeaning (c .before .before .before .before .dates-after .ensures) (c .before .date-meaning .ensures)
+    meant-is (a .p) (datesAfter (rawDate (a .year) (a .odd-name) (a .day, a .odd-weekday))) dateMeaning (c .before .before .before .before .dates-after .ensures) (c .before .date-meaning .ensures)
     (c .judged .ensures)))  -- returns

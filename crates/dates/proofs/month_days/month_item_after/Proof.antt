@@ -1,4 +1,5 @@
 use Prim.Native.Nat.{ℕ}
+use mathlib.Core.Bool.{Bool}
 use mathlib.Core.List.{List}
 use mathlib.Core.Path.{_≡_}
 use borrow.Author.Needs.{needs}
@@ -12,7 +13,8 @@ use Rattle.dates.proofs.month_days.month_item_after.Statement.{statemen
 use Rattle.dates.proofs.month_days.month_item_after.Tie as tie
 
 -- months, from their last
-months : (y : Year) (first : ℕ) (s : List ℕ) (i : ℕ) {last j : ℕ} → lastMonth first s i ≡ got last j → monthAfter y first s i ≡ got (record { year = y; first = first; last = last }) j
+months : (y : Year) (first : ℕ × Bool) (s : List ℕ) (i : ℕ) {last : ℕ × Bool} {j : ℕ} → lastMonth (first .0) s i ≡ got last j →
+    monthAfter y first s i ≡ got (record { year = y; first = first .0; last = last .0; «odd_first» = first .1; «odd_last» = last .1 }) j
 unfolding monthAfter
 months y first s i h = rw h
 
@@ -25,6 +27,6 @@ month-item-after-spec =
     (λ c κs. search needs)  -- month-meaning-requires
     (λ c κs. search needs)  -- judged-requires
     (λ c. let a = c .before .before .before .before .before .before .args in
-    rw (eq-eqb _ 2 (c .before .before .before .before .if1 .taken)) (meant-is (a .p) (monthAfter (a .year) (a .first)) monthMeaning (months (a .year) (a .first) _ _
+    rw (eq-eqb _ 2 (c .before .before .before .before .if1 .taken)) (meant-is (a .p) (monthAfter (a .year) (a .first, a .odd)) monthMeaning (months (a .year) (a .first, a .odd) _ _
     (c .before .before .before .month-after .ensures)) (c .before .month-meaning .ensures) (c .judged .ensures)))  -- returns
     (λ c. rw (ne-eqb _ 2 (c .if1 .left))))  -- returns-2
