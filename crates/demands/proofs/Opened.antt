@@ -10,7 +10,7 @@ use Rattle.names.specs.Texts.{byte, allOf, blanks, blank, comma}
 use Rattle.calendar.specs.Calendar.{leap, lastOfFebruary, hasThirty, lastOf, isDay}
 use Rattle.records.specs.Tables.{laid}
 use Rattle.records.specs.Words.{wordsOf}
-use Rattle.times.specs.Meanings.{eventOf, dayClock, endClock, repeatClock, spanMeaning}
+use Rattle.times.specs.Meanings.{eventOf, spanMeaning}
 use Rattle.times.specs.Spans.{repeated, tail, untilTime, spanAfter, spanShape, timeItem, eventItemAfter}
 use Rattle.times.specs.Times.{clock, withOffset, eventWithOffset, rawTime}
 use Rattle.days.specs.Entries.{backEntry, frontEntry, entry, nextEntry, setAll, goodEntry, marked, markedAll, entries, bits}
@@ -45,7 +45,7 @@ use Rattle.sheet.specs.Warnings.{isLetter, warningsIn}
 -- nothing, over the line that opens them
 unfoldable pub opened : Unit {0}
 unfolding chainIn chain many skip names spelledSo lower letter firstOf word name isDigit digit upTo digits clockAfter number insideOf one ahead atEnd allSmall spellingBy spelt warns
-    within byte allOf blanks blank comma leap lastOfFebruary hasThirty lastOf isDay wordsOf dayClock endClock repeatClock eventOf spanMeaning repeated tail untilTime spanAfter
+    within byte allOf blanks blank comma leap lastOfFebruary hasThirty lastOf isDay wordsOf eventOf spanMeaning repeated tail untilTime spanAfter
     spanShape timeItem eventItemAfter clock withOffset eventWithOffset rawTime backEntry frontEntry entry nextEntry setAll goodEntry marked markedAll entries bits holidayAfter
     holidayShape holidayMeaning holidayItem holidayItemAfter plusOrMinus dayOffset anyDays wdayOffset offset lastWeekday bracketed untilWeekday withEntries narrowAfter wideAfter
     weekdayShape flagged weekdayMeaning weekdayItem weekdayItemAfter optionalYear backNth frontNth nth weekdayOf dayOf dayAfter date untilDate bareDay until endShape datesAfter

@@ -1,4 +1,5 @@
 pub mod Laws
 pub mod Cut
 pub mod OneAnswer
+pub mod Ranges
 pub mod Examples

@@ -1,8 +1,8 @@
 -- Ranges: MM 0 to 59; hour 0 to 23 with 24:00 besides; as a span's end 0:00 to 48:00. `/24:00` is out of range (docs/RULES.md, 4).
 -- `10:00+` ends at 24:00, open. Spans are not reordered. A time alone is refused as 8, but for the second edition, where it ends where it starts.
-use Prim.Native.Nat.{ℕ, _+_, _*_}
-use mathlib.Core.Bool.{Bool, true, false, _&&_, _||_, not}
-use lib.Dec.{leb, eqb}
+use Prim.Native.Nat.{ℕ}
+use mathlib.Core.Bool.{Bool, true, false, _&&_, not}
+use lib.Dec.{leb, ltb, eqb}
 use Rattle.names.specs.Tests.{if_then_else_}
 use Rattle.names.specs.Refusals.{pointInTime, range}
 use Rattle.names.specs.declared.Manner.{Manner}
@@ -16,45 +16,37 @@ use Rattle.records.specs.declared.Repeat.the-variants.{Never, Every}
 use Rattle.records.specs.declared.Item.the-variants.{Times}
 use Rattle.records.specs.declared.Meant.{Meant}
 use Rattle.records.specs.declared.Meant.the-variants.{Is, Refused}
-use Rattle.times.specs.declared.Clock.{Clock}
 use Rattle.times.specs.declared.RawTime.{RawTime}
 use Rattle.times.specs.declared.RawTime.the-variants.{Fixed, Sun}
 use Rattle.times.specs.declared.RawTail.{RawTail}
 use Rattle.times.specs.declared.RawTail.the-variants.{Nothing, Plus, Minutes, Hours}
+use Rattle.times.specs.Times.{goodMinute}
 use Rattle.times.specs.Shapes.{RawSpan, Alone, Open, Until}
 
--- minutes since midnight
-abbrev pub minutesOf : Clock → ℕ
-minutesOf c = c.hour * 60 + c.minute
+-- the minutes of 24:00
+abbrev pub midnight : ℕ
+midnight = 1440
 
--- hour 0 to 23 with 24:00 besides, MM 0 to 59
-unfoldable pub dayClock : Clock → Bool
-dayClock c = leb c.minute 59 && (leb c.hour 23 || eqb (minutesOf c) 1440)
+-- the minutes of 48:00, a day later
+abbrev pub nextMidnight : ℕ
+nextMidnight = 2880
 
--- as a span's end 0:00 to 48:00
-unfoldable pub endClock : Clock → Bool
-endClock c = leb c.minute 59 && leb (minutesOf c) 2880
-
--- a repeat: `/24:00` is out of range
-unfoldable pub repeatClock : Clock → Bool
-repeatClock c = leb c.minute 59 && leb c.hour 23
-
--- a start in range
+-- a start in range: hour 0 to 23 with 24:00 besides, so up to 24:00; the same for what is added to an event, or taken off
 abbrev pub goodStart : RawTime → Bool
-goodStart (Fixed c) = dayClock c
-goodStart (Sun e negative c) = dayClock c
+goodStart (Fixed c) = leb c midnight
+goodStart (Sun e negative c) = leb c midnight
 
--- an end in range
+-- an end in range: a clock time up to 48:00, an event as at the start
 abbrev pub goodEnd : RawTime → Bool
-goodEnd (Fixed c) = endClock c
-goodEnd (Sun e negative c) = dayClock c
+goodEnd (Fixed c) = leb c nextMidnight
+goodEnd (Sun e negative c) = leb c midnight
 
--- a tail in range
+-- a tail in range: MM 0 to 59, hour 0 to 23, so below 24:00
 abbrev pub goodTail : RawTail → Bool
 goodTail Nothing = true
 goodTail Plus = true
-goodTail (Minutes m) = leb m 59
-goodTail (Hours c) = repeatClock c
+goodTail (Minutes m) = goodMinute m
+goodTail (Hours c) = ltb c midnight
 
 -- a span in range
 abbrev pub goodSpan : RawSpan → Bool
@@ -68,15 +60,15 @@ eventOf e m = if eqb e 1 then time.Dawn m else if eqb e 2 then time.Sunrise m el
 
 -- a clock time in minutes, or an event with minutes added or taken off
 abbrev pub timeOf : RawTime → Time
-timeOf (Fixed c) = time.Fixed (minutesOf c)
-timeOf (Sun e negative c) = eventOf e (signed negative (minutesOf c))
+timeOf (Fixed c) = time.Fixed c
+timeOf (Sun e negative c) = eventOf e (signed negative c)
 
 -- the repeat
 abbrev pub repeatOf : RawTail → Repeat
 repeatOf Nothing = Never
 repeatOf Plus = Never
 repeatOf (Minutes m) = Every m
-repeatOf (Hours c) = Every (minutesOf c)
+repeatOf (Hours c) = Every c
 
 -- whether the end is open
 abbrev pub openEndOf : RawTail → Bool
@@ -94,7 +86,7 @@ aloneOf Second t = Is (Times (record { start = timeOf t; end = timeOf t; repeats
 -- what a span in range is
 abbrev pub spanOf : Manner → RawSpan → Meant
 spanOf m (Alone t) = aloneOf m t
-spanOf m (Open t) = Is (Times (record { start = timeOf t; end = time.Fixed 1440; repeats = Never; «open_end» = true; point = false }))
+spanOf m (Open t) = Is (Times (record { start = timeOf t; end = time.Fixed midnight; repeats = Never; «open_end» = true; point = false }))
 spanOf m (Until a b t) = Is (Times (record { start = timeOf a; end = timeOf b; repeats = repeatOf t; «open_end» = openEndOf t; point = false }))
 
 -- the meaning: 4, then 8

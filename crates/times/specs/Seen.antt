@@ -1,6 +1,6 @@
 -- What an answer of the code says, in the definitions' terms.
+use Prim.Native.Nat.{ℕ}
 use Rattle.names.specs.Read.{Read, got, none}
-use Rattle.times.specs.declared.Clock.{Clock}
 use Rattle.times.specs.declared.ClockRead.{ClockRead}
 use Rattle.times.specs.declared.ClockRead.the-variants as clock
 use Rattle.times.specs.declared.RawTime.{RawTime}
@@ -11,7 +11,7 @@ use Rattle.times.specs.declared.TailRead.{TailRead}
 use Rattle.times.specs.declared.TailRead.the-variants as tail
 use Rattle.times.specs.declared.TailThen.{TailThen}
 
-abbrev pub seenClock : ClockRead → Read Clock
+abbrev pub seenClock : ClockRead → Read ℕ
 seenClock (clock.Got t c) = got t (c .at)
 seenClock clock.Missing = none
 

@@ -1,32 +1,41 @@
 -- Time: `H:MM`, or an event (`dawn`, `sunrise`, `sunset`, `dusk`), or `(event±H:MM)` (docs/RULES.md, 2).
-use Prim.Native.Nat.{ℕ}
+use Prim.Native.Nat.{ℕ, _+_, _*_}
 use mathlib.Core.Bool.{Bool, true, false}
+use lib.Dec.{leb}
+use Rattle.names.specs.Tests.{if_then_else_}
 use Rattle.names.specs.Read.{Read, got, none, refused, Reader, pure, _>>=_, _>>_, _or_}
 use Rattle.names.specs.Texts.{sign}
 use Rattle.names.specs.Numbers.{hour, minute}
 use Rattle.names.specs.Names.{name, event}
-use Rattle.times.specs.declared.Clock.{Clock}
 use Rattle.times.specs.declared.RawTime.{RawTime}
 use Rattle.times.specs.declared.RawTime.the-variants.{Fixed, Sun}
 
--- hours and minutes
-abbrev pub clockOf : ℕ → ℕ → Clock
-clockOf hour minute = record { hour = hour; minute = minute }
+-- MM in range: 0 to 59
+abbrev pub goodMinute : ℕ → Bool
+goodMinute m = leb m 59
+
+-- what is read where MM is out of range: more minutes than any range allows, since 48:00 has 2,880, and than any clock time has, since 99:59 has 5,999
+abbrev pub outOfRange : ℕ
+outOfRange = 9999
+
+-- a clock time's minutes since midnight; a shape is read whatever its numbers, and judged after that
+abbrev pub minutesOf : ℕ → ℕ → ℕ
+minutesOf h m = if goodMinute m then h * 60 + m else outOfRange
 
 -- `H:MM`
-unfoldable pub clock : Reader Clock
+unfoldable pub clock : Reader ℕ
 clock = do
   h ← hour
   sign ":"
   m ← minute
-  pure (clockOf h m)
+  pure (minutesOf h m)
 
 -- an event as it stands
 abbrev pub eventAlone : ℕ → RawTime
-eventAlone e = Sun e false (clockOf 0 0)
+eventAlone e = Sun e false 0
 
 -- a reading of a clock time that is added to an event, or taken off
-abbrev pub sunOf : ℕ → Bool → Read Clock → Read RawTime
+abbrev pub sunOf : ℕ → Bool → Read ℕ → Read RawTime
 sunOf e negative (got c j) = got (Sun e negative c) j
 sunOf e negative none = none
 sunOf e negative (refused k p) = refused k p

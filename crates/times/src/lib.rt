@@ -7,29 +7,23 @@ use names::Cursor;
 pub use spans::event_item_after;
 pub use spans::time_item;
 
-// A clock time as it is read.
-pub struct Clock {
-    pub hour: u8,
-    pub minute: u8,
-}
-
-// A time as it is read: a clock time, or an event with a clock time added to it, or taken off where the flag is set.
+// A time as it is read: a clock time in minutes, or an event with minutes added to it, or taken off where the flag is set.
 pub enum RawTime {
-    Fixed(Clock),
-    Sun(u8, bool, Clock),
+    Fixed(u16),
+    Sun(u8, bool, u16),
 }
 
-// What stands after a span's end, as it is read: nothing, a plus, or a repeat.
+// What stands after a span's end, as it is read: nothing, a plus, or a repeat in minutes, `/MM` or `/H:MM`.
 pub enum RawTail {
     Nothing,
     Plus,
     Minutes(u8),
-    Hours(Clock),
+    Hours(u16),
 }
 
-// What reading a clock time finds.
+// What reading a clock time finds: its minutes.
 pub enum ClockRead {
-    Got(Clock, Cursor),
+    Got(u16, Cursor),
     Missing,
 }
 

@@ -1,11 +1,12 @@
 // What a span means: its numbers' ranges, and the item.
+ghost use mathlib.Core.Bool.{true};
 ghost use mathlib.Core.Path.{_≡_};
 ghost use Rattle.names.specs.declared.Manner.{Manner};
 ghost use Rattle.times.specs.Shapes.{Alone, Open, Until};
 ghost use Rattle.times.specs.Meanings as meanings;
-use crate::Clock;
 use crate::RawTail;
 use crate::RawTime;
+use crate::times::LAST_MINUTE;
 use names::Manner;
 use names::POINT_IN_TIME;
 use names::RANGE;
@@ -16,53 +17,19 @@ use records::Span;
 use records::Time;
 use records::signed;
 
-// Minutes since midnight.
-fn minutes_of(c: Clock) -> u16
-    ensures { λ r. ⌜ r ≡ meanings.minutesOf c ⌝ }
-{
-    (c.hour as u16) * 60 + (c.minute as u16)
-}
+// The minutes of 24:00.
+const MIDNIGHT: u16 = 1440;
 
-// Hour 0 to 23 with 24:00 besides, MM 0 to 59.
-fn day_clock(c: Clock) -> bool
-    ensures { λ r. ⌜ r ≡ meanings.dayClock c ⌝ }
-{
-    if c.minute <= 59 {
-        if c.hour <= 23 {
-            true
-        } else {
-            minutes_of(c) == 1440
-        }
-    } else {
-        false
-    }
-}
-
-// As a span's end 0:00 to 48:00.
-fn end_clock(c: Clock) -> bool
-    ensures { λ r. ⌜ r ≡ meanings.endClock c ⌝ }
-{
-    if c.minute <= 59 {
-        minutes_of(c) <= 2880
-    } else {
-        false
-    }
-}
-
-// A repeat: `/24:00` is out of range.
-fn repeat_clock(c: Clock) -> bool
-    ensures { λ r. ⌜ r ≡ meanings.repeatClock c ⌝ }
-{
-    if c.minute <= 59 { c.hour <= 23 } else { false }
-}
+// The minutes of 48:00.
+const NEXT_MIDNIGHT: u16 = 2880;
 
 // A start in range.
 fn good_start(t: RawTime) -> bool
     ensures { λ r. ⌜ r ≡ meanings.goodStart t ⌝ }
 {
     match t {
-        RawTime::Fixed(c) => day_clock(c),
-        RawTime::Sun(_, _, c) => day_clock(c),
+        RawTime::Fixed(c) => c <= MIDNIGHT,
+        RawTime::Sun(_, _, c) => c <= MIDNIGHT,
     }
 }
 
@@ -71,8 +38,8 @@ fn good_end(t: RawTime) -> bool
     ensures { λ r. ⌜ r ≡ meanings.goodEnd t ⌝ }
 {
     match t {
-        RawTime::Fixed(c) => end_clock(c),
-        RawTime::Sun(_, _, c) => day_clock(c),
+        RawTime::Fixed(c) => c <= NEXT_MIDNIGHT,
+        RawTime::Sun(_, _, c) => c <= MIDNIGHT,
     }
 }
 
@@ -83,8 +50,8 @@ fn good_tail(t: RawTail) -> bool
     match t {
         RawTail::Nothing => true,
         RawTail::Plus => true,
-        RawTail::Minutes(m) => m <= 59,
-        RawTail::Hours(c) => repeat_clock(c),
+        RawTail::Minutes(m) => (m as u32) <= LAST_MINUTE,
+        RawTail::Hours(c) => c < MIDNIGHT,
     }
 }
 
@@ -115,16 +82,14 @@ fn event_of(e: u8, minutes: i16) -> Time
     Time::Dusk(minutes)
 }
 
-// A clock time in minutes, or an event with minutes added or taken off.
+// A clock time in minutes, or an event with minutes added or taken off. It is in range, so that the minutes fit an i16.
 fn time_of(t: RawTime) -> Time
+    requires { ⌜ meanings.goodEnd t ≡ true ⌝ }
     ensures { λ r. ⌜ r ≡ meanings.timeOf t ⌝ }
 {
     match t {
-        RawTime::Fixed(c) => Time::Fixed(minutes_of(c)),
-        RawTime::Sun(e, negative, c) => {
-            let n = minutes_of(c);
-            event_of(e, signed(negative, n))
-        }
+        RawTime::Fixed(c) => Time::Fixed(c),
+        RawTime::Sun(e, negative, c) => event_of(e, signed(negative, c)),
     }
 }
 
@@ -136,7 +101,7 @@ fn repeat_of(t: RawTail) -> Repeat
         RawTail::Nothing => Repeat::Never,
         RawTail::Plus => Repeat::Never,
         RawTail::Minutes(m) => Repeat::Every(m as u16),
-        RawTail::Hours(c) => Repeat::Every(minutes_of(c)),
+        RawTail::Hours(c) => Repeat::Every(c),
     }
 }
 
@@ -152,8 +117,9 @@ fn open_end_of(t: RawTail) -> bool
     }
 }
 
-// What a time alone is: a span that ends where it starts in the second edition, and else refused.
+// What a time alone in range is: a span that ends where it starts in the second edition, and else refused.
 fn alone_of(m: Manner, t: RawTime) -> Meant
+    requires { ⌜ meanings.goodStart t ≡ true ⌝ }
     ensures { λ x. ⌜ x ≡ meanings.aloneOf m t ⌝ }
 {
     match m {
@@ -190,7 +156,7 @@ pub fn open_meaning(t: RawTime) -> Meant
         let start = time_of(t);
         Meant::Is(Item::Times(Span {
             start,
-            end: Time::Fixed(1440),
+            end: Time::Fixed(MIDNIGHT),
             repeats: Repeat::Never,
             open_end: true,
             point: false,

@@ -6,7 +6,6 @@ ghost use Rattle.times.specs.Meanings as meanings;
 ghost use Rattle.times.specs.Spans as spans;
 ghost use Rattle.names.specs.declared.Manner.{Manner};
 ghost use Rattle.times.specs.Seen.{seenTail, thenTail};
-use crate::Clock;
 use crate::ClockRead;
 use crate::RawTail;
 use crate::RawTime;
@@ -119,11 +118,5 @@ pub fn time_item(s: &[u8], m: Manner, c: Cursor) -> ItemRead
 pub fn event_item_after(s: &[u8], m: Manner, p: usize, c: Cursor, event: u8) -> ItemRead
     ensures { λ r. ⌜ spans.eventItemAfter m p event (now (s .entry)) (c .at) ≡ seenItem r ⌝ }
 {
-    span_item_after(
-        s,
-        m,
-        p,
-        c,
-        RawTime::Sun(event, false, Clock { hour: 0, minute: 0 }),
-    )
+    span_item_after(s, m, p, c, RawTime::Sun(event, false, 0))
 }

@@ -2,7 +2,6 @@
 ghost use mathlib.Core.Path.{_≡_};
 ghost use Rattle.times.specs.Times as times;
 ghost use Rattle.times.specs.Seen.{seenClock, seenTime};
-use crate::Clock;
 use crate::ClockRead;
 use crate::RawTime;
 use crate::TimeRead;
@@ -10,6 +9,15 @@ use names::Cursor;
 use names::EVENT;
 use names::Num;
 use names::Step;
+
+// The minutes of an hour.
+const HOUR: u32 = 60;
+
+// MM goes from 0 to 59.
+pub const LAST_MINUTE: u32 = 59;
+
+// What is read where MM is above 59: more minutes than any range allows, and than any clock time has (99:59 has 5,999).
+const OUT_OF_RANGE: u16 = 9999;
 
 // `H:MM`
 pub fn clock(s: &[u8], c: Cursor) -> ClockRead
@@ -27,13 +35,10 @@ pub fn clock(s: &[u8], c: Cursor) -> ClockRead
     let Num::Got(m, f) = minutes else {
         return ClockRead::Missing;
     };
-    ClockRead::Got(
-        Clock {
-            hour: h as u8,
-            minute: m as u8,
-        },
-        f,
-    )
+    if LAST_MINUTE < m {
+        return ClockRead::Got(OUT_OF_RANGE, f);
+    }
+    ClockRead::Got((h * HOUR + m) as u16, f)
 }
 
 // A clock time that is added to an event, or taken off.
@@ -90,10 +95,7 @@ pub fn event_time(s: &[u8], c: Cursor) -> TimeRead
 {
     let name = c.name(s, EVENT);
     if let Num::Got(event, e) = name {
-        return TimeRead::Got(
-            RawTime::Sun(event as u8, false, Clock { hour: 0, minute: 0 }),
-            e,
-        );
+        return TimeRead::Got(RawTime::Sun(event as u8, false, 0), e);
     }
     event_with_offset(s, c)
 }

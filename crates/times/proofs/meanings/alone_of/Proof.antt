@@ -4,6 +4,7 @@ use mathlib.Core.Path.{_≡_, refl}
 use Rattle.names.proofs.Manners.{not-second}
 use Rattle.times.specs.Meanings.{aloneOf}
 use Rattle.records.specs.declared.Meant.the-variants.{Refused}
+use Rattle.times.proofs.Laws.{start-end}
 use Rattle.times.proofs.meanings.alone_of.Statement.{statement}
 use Rattle.times.proofs.meanings.alone_of.Tie as tie
 
@@ -12,6 +13,6 @@ alone-of-spec =
     tie.close
     (tie.spec
     (λ c. search needs)  -- enum-told
-    (λ c κs. search needs)  -- time-of-requires
+    (λ c κs. let s = c .before .before in start-end (s .args .t) (s .pre))  -- time-of-requires
     (λ c. rw (c .before .enum-told .given .1, c .time-of .ensures))  -- returns
     (λ c. let a = c .before .args in not-second (λ m. Refused 8 ≡ aloneOf m (a .t)) refl refl (a .m) (c .match .keys2)))  -- returns-2

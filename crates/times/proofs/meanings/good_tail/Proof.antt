@@ -9,9 +9,9 @@ good-tail-spec =
     (λ c. search needs)  -- enum-told
     (λ c. search needs)  -- enum-told-2
     (λ c. search needs)  -- enum-known-t
+    (λ c. search needs)  -- cast-result
     (λ c. search needs)  -- enum-known-t-2
-    (λ c κs. search needs)  -- repeat-clock-requires
     (λ c. search needs)  -- returns
     (λ c. search needs)  -- returns-2
     (λ c. rw (c .before .t .given .1))  -- returns-3
-    (λ c. rw (c .before .before .t2 .given .1) (c .repeat-clock .ensures)))  -- returns-4
+    (λ c. rw (c .before .t2 .given .1)))  -- returns-4

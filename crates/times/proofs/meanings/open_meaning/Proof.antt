@@ -1,6 +1,7 @@
 use borrow.Author.Needs.{needs}
 use mathlib.Core.Path.{sym, _∙_}
 use Rattle.times.specs.Meanings.{spanMeaning}
+use Rattle.times.proofs.Laws.{start-end}
 use Rattle.times.proofs.meanings.open_meaning.Statement.{statement}
 use Rattle.times.proofs.meanings.open_meaning.Tie as tie
 
@@ -10,6 +11,6 @@ open-meaning-spec =
     tie.close
     (tie.spec
     (λ c κs. search needs)  -- good-start-requires
-    (λ c κs. search needs)  -- time-of-requires
+    (λ c κs. start-end (c .before .before .args .t) (sym (c .before .good-start .ensures) ∙ c .if1 .taken))  -- time-of-requires
     (λ c. λ m. rw (sym (c .before .before .good-start .ensures) ∙ c .before .if1 .taken, c .time-of .ensures))  -- returns
     (λ c. λ m. rw (sym (c .before .good-start .ensures) ∙ c .if1 .left)))  -- returns-2

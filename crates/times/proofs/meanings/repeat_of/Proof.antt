@@ -11,8 +11,7 @@ repeat-of-spec =
     (λ c. search needs)  -- enum-known-t
     (λ c. search needs)  -- cast-t5
     (λ c. search needs)  -- enum-known-t-2
-    (λ c κs. search needs)  -- minutes-of-requires
     (λ c. search needs)  -- returns
     (λ c. search needs)  -- returns-2
     (λ c. rw (c .before .t .given .1))  -- returns-3
-    (λ c. rw (c .before .before .t2 .given .1, c .minutes-of .ensures)))  -- returns-4
+    (λ c. rw (c .before .t2 .given .1)))  -- returns-4

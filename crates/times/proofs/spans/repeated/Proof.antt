@@ -1,20 +1,20 @@
+use Prim.Native.Nat.{ℕ}
 use borrow.Author.Needs.{needs}
 use native.Mathlib.Omega.{arith}
 use mathlib.Core.Path.{ap}
 use Rattle.names.proofs.Facts.{Was, was, Said, said}
 use Rattle.times.specs.Spans.{repeated}
 use Rattle.times.specs.Seen.{seenClock}
-use Rattle.times.specs.declared.Clock.{Clock}
 use Rattle.times.proofs.spans.repeated.Statement.{statement}
 use Rattle.times.proofs.spans.repeated.Tie as tie
 
-abbrev hours : tie.After-hours → Said Clock
+abbrev hours : tie.After-hours → Said ℕ
 hours c = said (c .before .before .clock .ensures) (ap seenClock (c .hours .given .1))
 
-abbrev no-clock : tie.After-enum-told → Said Clock
+abbrev no-clock : tie.After-enum-told → Said ℕ
 no-clock c = said (c .before .before .clock .ensures) (ap seenClock (c .enum-told .given .1))
 
-abbrev minutes : tie.After-minutes2 → Said Clock × Was
+abbrev minutes : tie.After-minutes2 → Said ℕ × Was
 minutes c = (no-clock (c .before .before .before), was (c .before .before .minutes .ensures) (c .minutes2 .given .1))
 
 pub repeated-spec : {M : Type 1} → statement M

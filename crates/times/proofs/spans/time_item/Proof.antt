@@ -6,7 +6,6 @@ use denote.Ref.{now}
 use Rattle.names.specs.Read.{Read, got, none}
 use Rattle.times.specs.Spans.{spanAfter, spanShape, timeItem}
 use Rattle.times.specs.Seen.{seenClock, seenTime}
-use Rattle.times.specs.declared.Clock.{Clock}
 use Rattle.times.specs.declared.RawTime.{RawTime}
 use Rattle.times.specs.declared.RawTime.the-variants.{Fixed}
 use Rattle.times.specs.Times.{clock, eventTime, rawTime}
@@ -16,7 +15,7 @@ use Rattle.times.proofs.spans.time_item.Statement.{statement}
 use Rattle.times.proofs.spans.time_item.Tie as tie
 
 -- a clock time is a time, and where none stands, an event is
-with-clock : (s : List ℕ) (i : ℕ) {t : Clock} {j : ℕ} → clock s i ≡ got t j → rawTime s i ≡ got (Fixed t) j
+with-clock : (s : List ℕ) (i : ℕ) {t j : ℕ} → clock s i ≡ got t j → rawTime s i ≡ got (Fixed t) j
 unfolding rawTime
 with-clock s i e = rw (e)
 

@@ -1,4 +1,5 @@
 use borrow.Author.Needs.{needs}
+use borrow.Author.Tests.{le-leb, lt-leb}
 use native.Mathlib.Omega.{arith}
 use Rattle.names.proofs.Facts.{Was, was, Went, went}
 use Rattle.times.specs.Times.{clock}
@@ -31,6 +32,8 @@ clock-spec =
     (λ c. search needs)  -- enum-known-minutes
     (λ c. search needs)  -- enum-told-3
     (λ c. let w = colon (c .before .before .before .before) in let v = was (c .before .before .minute .ensures) (c .enum-told3 .given .1) in rw (w .0 .is, w .1 .is, v .is))  -- returns-3
-    (λ c. omega (arith, minutes (c .before) .0 .0 .small))  -- cast-t11
-    (λ c. omega (arith, minutes (c .before) .1 .small))  -- cast-t12
-    (λ c. let w = minutes (c .before) in rw (w .0 .0 .is, w .0 .1 .is, w .1 .is)))  -- returns-4
+    (λ c. let w = minutes (c .before .before) in rw (w .0 .0 .is, w .0 .1 .is, w .1 .is, lt-leb _ 59 (c .if1 .taken)))  -- returns-4
+    (λ c. omega (arith, minutes (c .before .before) .0 .0 .small))  -- mul-t12
+    (λ c. omega (arith, minutes (c .before .before) .0 .0 .small))  -- add-t13
+    (λ c. omega (arith, minutes (c .before .before) .0 .0 .small))  -- cast-t14
+    (λ c. let w = minutes (c .before .before) in rw (w .0 .0 .is, w .0 .1 .is, w .1 .is, le-leb _ 59 (c .if1 .left))))  -- returns-5
