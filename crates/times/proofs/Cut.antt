@@ -9,10 +9,10 @@ use Rattle.names.specs.declared.Manner.{Manner}
 use Rattle.names.specs.declared.Manner.the-variants.{First, Second, House}
 use Rattle.names.proofs.Local.{loose, free, pure-local, then-local, or-local}
 use Rattle.names.proofs.Cut.{byte-local, hour-local, minute-local, minutes-local}
-use Rattle.names.proofs.NameCut.{name-local}
+use Rattle.names.proofs.Odd.{named-local}
 use Rattle.records.proofs.Cut.{Alike, Refuses, refuses-if, item-alike}
 use Rattle.records.specs.declared.Meant.the-variants.{Refused}
-use Rattle.times.specs.Times.{clock, withOffset, eventWithOffset, rawTime}
+use Rattle.times.specs.Times.{Event, clock, withOffset, eventWithOffset, rawTime}
 use Rattle.times.specs.Spans.{repeated, tail, untilTime, spanAfter, spanShape, timeItem}
 use Rattle.times.specs.Meanings.{goodSpan, spanOf, spanMeaning}
 use Rattle.times.specs.declared.RawTime.{RawTime}
@@ -23,7 +23,7 @@ module _ {u : List ℕ} where
   unfolding clock
   clock-alike = then-local hour-local (λ h. then-local (free (byte-local 58 refl refl)) (λ _. then-local (free minute-local) (λ m. pure-local _)))
 
-  pub withOffset-alike : (e : ℕ) → Alike u 1 (withOffset e)
+  pub withOffset-alike : (e : Event) → Alike u 1 (withOffset e)
   unfolding withOffset
   withOffset-alike e =
       or-local (then-local (byte-local 43 refl refl) (λ _. then-local (free clock-alike) (λ c. pure-local _)))
@@ -32,12 +32,12 @@ module _ {u : List ℕ} where
   pub eventWithOffset-alike : Alike u 1 eventWithOffset
   unfolding eventWithOffset
   eventWithOffset-alike =
-      then-local (byte-local 40 refl refl) (λ _. then-local (free (name-local event)) (λ e.
+      then-local (byte-local 40 refl refl) (λ _. then-local (free (named-local event)) (λ e.
       then-local (free (withOffset-alike e)) (λ t. then-local (free (byte-local 41 refl refl)) (λ _. pure-local t))))
 
   pub rawTime-alike : Alike u 1 rawTime
   unfolding rawTime
-  rawTime-alike = or-local (then-local clock-alike (λ c. pure-local _)) (or-local (then-local (name-local event) (λ e. pure-local _)) eventWithOffset-alike)
+  rawTime-alike = or-local (then-local clock-alike (λ c. pure-local _)) (or-local (then-local (named-local event) (λ e. pure-local _)) eventWithOffset-alike)
 
   pub repeated-alike : Alike u 1 repeated
   unfolding repeated

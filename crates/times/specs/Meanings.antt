@@ -34,12 +34,12 @@ nextMidnight = 2880
 -- a start in range: hour 0 to 23 with 24:00 besides, so up to 24:00; the same for what is added to an event, or taken off
 abbrev pub goodStart : RawTime → Bool
 goodStart (Fixed c) = leb c midnight
-goodStart (Sun e negative c) = leb c midnight
+goodStart (Sun e negative c odd) = leb c midnight
 
 -- an end in range: a clock time up to 48:00, an event as at the start
 abbrev pub goodEnd : RawTime → Bool
 goodEnd (Fixed c) = leb c nextMidnight
-goodEnd (Sun e negative c) = leb c midnight
+goodEnd (Sun e negative c odd) = leb c midnight
 
 -- a tail in range: MM 0 to 59, hour 0 to 23, so below 24:00
 abbrev pub goodTail : RawTail → Bool
@@ -61,7 +61,12 @@ eventOf e m = if eqb e 1 then time.Dawn m else if eqb e 2 then time.Sunrise m el
 -- a clock time in minutes, or an event with minutes added or taken off
 abbrev pub timeOf : RawTime → Time
 timeOf (Fixed c) = time.Fixed c
-timeOf (Sun e negative c) = eventOf e (signed negative c)
+timeOf (Sun e negative c odd) = eventOf e (signed negative c)
+
+-- whether the name of a time's event calls for a warning
+abbrev pub isOdd : RawTime → Bool
+isOdd (Fixed c) = false
+isOdd (Sun e negative c odd) = odd
 
 -- the repeat
 abbrev pub repeatOf : RawTail → Repeat
@@ -81,13 +86,16 @@ openEndOf (Hours c) = false
 abbrev pub aloneOf : Manner → RawTime → Meant
 aloneOf First t = Refused pointInTime
 aloneOf House t = Refused pointInTime
-aloneOf Second t = Is (Times (record { start = timeOf t; end = timeOf t; repeats = Never; «open_end» = false; point = true }))
+aloneOf Second t =
+    Is (Times (record { start = timeOf t; end = timeOf t; repeats = Never; «open_end» = false; point = true; «odd_start» = isOdd t; «odd_end» = false }))
 
 -- what a span in range is
 abbrev pub spanOf : Manner → RawSpan → Meant
 spanOf m (Alone t) = aloneOf m t
-spanOf m (Open t) = Is (Times (record { start = timeOf t; end = time.Fixed midnight; repeats = Never; «open_end» = true; point = false }))
-spanOf m (Until a b t) = Is (Times (record { start = timeOf a; end = timeOf b; repeats = repeatOf t; «open_end» = openEndOf t; point = false }))
+spanOf m (Open t) =
+    Is (Times (record { start = timeOf t; end = time.Fixed midnight; repeats = Never; «open_end» = true; point = false; «odd_start» = isOdd t; «odd_end» = false }))
+spanOf m (Until a b t) =
+    Is (Times (record { start = timeOf a; end = timeOf b; repeats = repeatOf t; «open_end» = openEndOf t; point = false; «odd_start» = isOdd a; «odd_end» = isOdd b }))
 
 -- the meaning: 4, then 8
 unfoldable pub spanMeaning : Manner → RawSpan → Meant

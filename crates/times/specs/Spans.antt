@@ -3,6 +3,8 @@ use Prim.Native.Nat.{ℕ}
 use Rattle.names.specs.Read.{Reader, pure, _>>=_, _>>_, _or_}
 use Rattle.names.specs.Texts.{sign}
 use Rattle.names.specs.Numbers.{minutes}
+use Rattle.names.specs.Names.{event}
+use Rattle.names.specs.Spellings.{oddFrom}
 use Rattle.names.specs.declared.Manner.{Manner}
 use Rattle.records.specs.Items.{item, meant}
 use Rattle.records.specs.declared.Item.{Item}
@@ -45,4 +47,4 @@ timeItem m = item spanShape (spanMeaning m)
 
 -- the item that begins at p with an event e, after the event
 unfoldable pub eventItemAfter : Manner → ℕ → ℕ → Reader Item
-eventItemAfter m p e = meant p (spanAfter (eventAlone e)) (spanMeaning m)
+eventItemAfter m p e = meant p (do odd ← oddFrom event p; spanAfter (eventAlone (e, odd))) (spanMeaning m)

@@ -6,7 +6,8 @@ use Rattle.names.specs.Tests.{if_then_else_}
 use Rattle.names.specs.Read.{Read, got, none, refused, Reader, pure, _>>=_, _>>_, _or_}
 use Rattle.names.specs.Texts.{sign}
 use Rattle.names.specs.Numbers.{hour, minute}
-use Rattle.names.specs.Names.{name, event}
+use Rattle.names.specs.Names.{event}
+use Rattle.names.specs.Spellings.{named}
 use Rattle.times.specs.declared.RawTime.{RawTime}
 use Rattle.times.specs.declared.RawTime.the-variants.{Fixed, Sun}
 
@@ -30,32 +31,40 @@ clock = do
   m ← minute
   pure (minutesOf h m)
 
+-- an event by its name: which one, and whether the name calls for a warning
+abbrev pub Event : Type 0
+Event = ℕ × Bool
+
+-- an event with minutes added to it, or taken off
+abbrev pub sun : Event → Bool → ℕ → RawTime
+sun e negative c = Sun (e .0) negative c (e .1)
+
 -- an event as it stands
-abbrev pub eventAlone : ℕ → RawTime
-eventAlone e = Sun e false 0
+abbrev pub eventAlone : Event → RawTime
+eventAlone e = sun e false 0
 
 -- a reading of a clock time that is added to an event, or taken off
-abbrev pub sunOf : ℕ → Bool → Read ℕ → Read RawTime
-sunOf e negative (got c j) = got (Sun e negative c) j
+abbrev pub sunOf : Event → Bool → Read ℕ → Read RawTime
+sunOf e negative (got c j) = got (sun e negative c) j
 sunOf e negative none = none
 sunOf e negative (refused k p) = refused k p
 
 -- after `(` and an event: `±H:MM`
-unfoldable pub withOffset : ℕ → Reader RawTime
-withOffset e = (do sign "+"; c ← clock; pure (Sun e false c)) or (do sign "-"; c ← clock; pure (Sun e true c))
+unfoldable pub withOffset : Event → Reader RawTime
+withOffset e = (do sign "+"; c ← clock; pure (sun e false c)) or (do sign "-"; c ← clock; pure (sun e true c))
 
 -- `(event±H:MM)`
 unfoldable pub eventWithOffset : Reader RawTime
 eventWithOffset = do
   sign "("
-  e ← name event
+  e ← named event
   t ← withOffset e
   sign ")"
   pure t
 
 -- an event, or `(event±H:MM)`
 abbrev pub eventTime : Reader RawTime
-eventTime = (do e ← name event; pure (eventAlone e)) or eventWithOffset
+eventTime = (do e ← named event; pure (eventAlone e)) or eventWithOffset
 
 -- a time
 unfoldable pub rawTime : Reader RawTime

@@ -29,7 +29,7 @@ fn good_start(t: RawTime) -> bool
 {
     match t {
         RawTime::Fixed(c) => c <= MIDNIGHT,
-        RawTime::Sun(_, _, c) => c <= MIDNIGHT,
+        RawTime::Sun(_, _, c, _) => c <= MIDNIGHT,
     }
 }
 
@@ -39,7 +39,7 @@ fn good_end(t: RawTime) -> bool
 {
     match t {
         RawTime::Fixed(c) => c <= NEXT_MIDNIGHT,
-        RawTime::Sun(_, _, c) => c <= MIDNIGHT,
+        RawTime::Sun(_, _, c, _) => c <= MIDNIGHT,
     }
 }
 
@@ -89,7 +89,17 @@ fn time_of(t: RawTime) -> Time
 {
     match t {
         RawTime::Fixed(c) => Time::Fixed(c),
-        RawTime::Sun(e, negative, c) => event_of(e, signed(negative, c)),
+        RawTime::Sun(e, negative, c, _) => event_of(e, signed(negative, c)),
+    }
+}
+
+// Whether the name of a time's event calls for a warning.
+fn is_odd(t: RawTime) -> bool
+    ensures { λ r. ⌜ r ≡ meanings.isOdd t ⌝ }
+{
+    match t {
+        RawTime::Fixed(_) => false,
+        RawTime::Sun(_, _, _, odd) => odd,
     }
 }
 
@@ -131,6 +141,8 @@ fn alone_of(m: Manner, t: RawTime) -> Meant
                 repeats: Repeat::Never,
                 open_end: false,
                 point: true,
+                odd_start: is_odd(t),
+                odd_end: false,
             }))
         }
         _ => Meant::Refused(POINT_IN_TIME),
@@ -160,6 +172,8 @@ pub fn open_meaning(t: RawTime) -> Meant
             repeats: Repeat::Never,
             open_end: true,
             point: false,
+            odd_start: is_odd(t),
+            odd_end: false,
         }))
     } else {
         Meant::Refused(RANGE)
@@ -181,6 +195,8 @@ pub fn until_meaning(a: RawTime, b: RawTime, t: RawTail) -> Meant
             repeats,
             open_end,
             point: false,
+            odd_start: is_odd(a),
+            odd_end: is_odd(b),
         }))
     } else {
         Meant::Refused(RANGE)

@@ -1,5 +1,7 @@
 // Span: time`+`; or time`-`end and then nothing, `+`, `/MM` or `/H:MM`; or a time alone.
+ghost use Prim.Native.Nat.{_≤_, _<_};
 ghost use mathlib.Core.Path.{_≡_};
+ghost use lib.ListN.{length};
 ghost use Rattle.records.specs.Items.{meant};
 ghost use Rattle.records.specs.Seen.{seenItem};
 ghost use Rattle.times.specs.Meanings as meanings;
@@ -19,6 +21,7 @@ use crate::times::clock;
 use crate::times::event_time;
 use crate::times::raw_time;
 use names::Cursor;
+use names::EVENT;
 use names::Manner;
 use names::Num;
 use names::Step;
@@ -116,7 +119,10 @@ pub fn time_item(s: &[u8], m: Manner, c: Cursor) -> ItemRead
 
 // The item that begins at p with an event, after the event.
 pub fn event_item_after(s: &[u8], m: Manner, p: usize, c: Cursor, event: u8) -> ItemRead
+    requires { ⌜ p < c .at ⌝ }
+    requires { ⌜ c .at ≤ length (now s) ⌝ }
     ensures { λ r. ⌜ spans.eventItemAfter m p event (now (s .entry)) (c .at) ≡ seenItem r ⌝ }
 {
-    span_item_after(s, m, p, c, RawTime::Sun(event, false, 0))
+    let odd = Cursor { at: p }.odd(s, EVENT, c);
+    span_item_after(s, m, p, c, RawTime::Sun(event, false, 0, odd))
 }

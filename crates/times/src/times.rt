@@ -7,6 +7,7 @@ use crate::RawTime;
 use crate::TimeRead;
 use names::Cursor;
 use names::EVENT;
+use names::Named;
 use names::Num;
 use names::Step;
 
@@ -42,28 +43,28 @@ pub fn clock(s: &[u8], c: Cursor) -> ClockRead
 }
 
 // A clock time that is added to an event, or taken off.
-fn sun(event: u8, negative: bool, time: ClockRead) -> TimeRead
-    ensures { λ r. ⌜ times.sunOf event negative (seenClock time) ≡ seenTime r ⌝ }
+fn sun(event: u8, odd: bool, negative: bool, time: ClockRead) -> TimeRead
+    ensures { λ r. ⌜ times.sunOf (event, odd) negative (seenClock time) ≡ seenTime r ⌝ }
 {
     match time {
-        ClockRead::Got(t, c) => TimeRead::Got(RawTime::Sun(event, negative, t), c),
+        ClockRead::Got(t, c) => TimeRead::Got(RawTime::Sun(event, negative, t, odd), c),
         ClockRead::Missing => TimeRead::Missing,
     }
 }
 
 // After `(` and an event: `±H:MM`.
-fn with_offset(s: &[u8], c: Cursor, event: u8) -> TimeRead
-    ensures { λ r. ⌜ times.withOffset event (now (s .entry)) (c .at) ≡ seenTime r ⌝ }
+fn with_offset(s: &[u8], c: Cursor, event: u8, odd: bool) -> TimeRead
+    ensures { λ r. ⌜ times.withOffset (event, odd) (now (s .entry)) (c .at) ≡ seenTime r ⌝ }
 {
     let plus = c.sign(s, b'+');
     if let Step::Got(d) = plus {
-        return sun(event, false, clock(s, d));
+        return sun(event, odd, false, clock(s, d));
     }
     let minus = c.sign(s, b'-');
     let Step::Got(e) = minus else {
         return TimeRead::Missing;
     };
-    sun(event, true, clock(s, e))
+    sun(event, odd, true, clock(s, e))
 }
 
 // `(event±H:MM)`
@@ -74,11 +75,11 @@ fn event_with_offset(s: &[u8], c: Cursor) -> TimeRead
     let Step::Got(d) = left else {
         return TimeRead::Missing;
     };
-    let name = d.name(s, EVENT);
-    let Num::Got(event, e) = name else {
+    let name = d.named(s, EVENT);
+    let Named::Got(event, odd, e) = name else {
         return TimeRead::Missing;
     };
-    let time = with_offset(s, e, event as u8);
+    let time = with_offset(s, e, event, odd);
     let TimeRead::Got(t, f) = time else {
         return TimeRead::Missing;
     };
@@ -93,9 +94,9 @@ fn event_with_offset(s: &[u8], c: Cursor) -> TimeRead
 pub fn event_time(s: &[u8], c: Cursor) -> TimeRead
     ensures { λ r. ⌜ times.eventTime (now (s .entry)) (c .at) ≡ seenTime r ⌝ }
 {
-    let name = c.name(s, EVENT);
-    if let Num::Got(event, e) = name {
-        return TimeRead::Got(RawTime::Sun(event as u8, false, 0), e);
+    let name = c.named(s, EVENT);
+    if let Named::Got(event, odd, e) = name {
+        return TimeRead::Got(RawTime::Sun(event, false, 0, odd), e);
     }
     event_with_offset(s, c)
 }

@@ -14,5 +14,6 @@ alone-of-spec =
     (tie.spec
     (λ c. search needs)  -- enum-told
     (λ c κs. let s = c .before .before in start-end (s .args .t) (s .pre))  -- time-of-requires
-    (λ c. rw (c .before .enum-told .given .1, c .time-of .ensures))  -- returns
+    (λ c κs. search needs)  -- is-odd-requires
+    (λ c. let t = c .before in rw (t .before .enum-told .given .1, t .time-of .ensures, c .is-odd .ensures))  -- returns
     (λ c. let a = c .before .args in not-second (λ m. Refused 8 ≡ aloneOf m (a .t)) refl refl (a .m) (c .match .keys2)))  -- returns-2

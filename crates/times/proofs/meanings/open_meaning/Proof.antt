@@ -12,5 +12,6 @@ open-meaning-spec =
     (tie.spec
     (λ c κs. search needs)  -- good-start-requires
     (λ c κs. start-end (c .before .before .args .t) (sym (c .before .good-start .ensures) ∙ c .if1 .taken))  -- time-of-requires
-    (λ c. λ m. rw (sym (c .before .before .good-start .ensures) ∙ c .before .if1 .taken, c .time-of .ensures))  -- returns
+    (λ c κs. search needs)  -- is-odd-requires
+    (λ c. λ m. let t = c .before in rw (sym (t .before .before .good-start .ensures) ∙ t .before .if1 .taken, t .time-of .ensures, c .is-odd .ensures))  -- returns
     (λ c. λ m. rw (sym (c .before .good-start .ensures) ∙ c .if1 .left)))  -- returns-2

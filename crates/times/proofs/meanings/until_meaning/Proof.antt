@@ -20,13 +20,17 @@ until-meaning-spec =
     (λ c κs. ends (c .before) .1)  -- time-of-requires-2
     (λ c κs. search needs)  -- repeat-of-requires
     (λ c κs. search needs)  -- open-end-of-requires
-    (λ c. λ m. let b = c .before .before .before in
+    (λ c κs. search needs)  -- is-odd-requires
+    (λ c κs. search needs)  -- is-odd-requires-2
+    (λ c. λ m. let o = c .before .before in let b = o .before .before .before in
     rw (
       sym (b .before .before .good-until .ensures)
           ∙ b .before .if1 .taken,
       b .time-of .ensures,
-      c .before .before .time-of2 .ensures,
-      c .before .repeat-of .ensures,
-      c .open-end-of .ensures,
+      o .before .before .time-of2 .ensures,
+      o .before .repeat-of .ensures,
+      o .open-end-of .ensures,
+      c .before .is-odd .ensures,
+      c .is-odd2 .ensures,
     ))  -- returns
     (λ c. λ m. rw (sym (c .before .good-until .ensures) ∙ c .if1 .left)))  -- returns-2

@@ -8,5 +8,6 @@ unfolding eventItemAfter
 event-item-after-spec =
     tie.close
     (tie.spec
+    (λ c κs. search needs)  -- odd-requires
     (λ c κs. search needs)  -- span-item-after-requires
-    (λ c. c .span-item-after .ensures))  -- returns
+    (λ c. rw (c .before .odd .ensures) at (c .span-item-after .ensures)))  -- returns

@@ -1,7 +1,6 @@
 use borrow.Author.Needs.{needs}
-use native.Mathlib.Omega.{arith}
 use mathlib.Core.Path.{ap}
-use Rattle.names.proofs.Facts.{Was, was, Went, went, Said, said}
+use Rattle.names.proofs.Facts.{Called, called, Went, went, Said, said}
 use Rattle.times.specs.Times.{eventWithOffset}
 use Rattle.times.specs.Seen.{seenTime}
 use Rattle.times.specs.declared.RawTime.{RawTime}
@@ -11,13 +10,13 @@ use Rattle.times.proofs.times.event_with_offset.Tie as tie
 abbrev left : tie.After-left → Went
 left c = went (c .before .before .sign .ensures) (c .left .given .1)
 
-abbrev event : tie.After-name2 → Went × Was
-event c = (left (c .before .before .before .before), was (c .before .before .name .ensures) (c .name2 .given .1))
+abbrev event : tie.After-name → Went × Called
+event c = (left (c .before .before .before .before), called (c .before .before .named .ensures) (c .name .given .1))
 
-abbrev time : tie.After-time → (Went × Was) × Said RawTime
+abbrev time : tie.After-time → (Went × Called) × Said RawTime
 time c = (event (c .before .before .before .before), said (c .before .before .with-offset .ensures) (ap seenTime (c .time .given .1)))
 
-abbrev right : tie.After-right → ((Went × Was) × Said RawTime) × Went
+abbrev right : tie.After-right → ((Went × Called) × Said RawTime) × Went
 right c = (time (c .before .before .before .before), went (c .before .before .sign2 .ensures) (c .right .given .1))
 
 pub event-with-offset-spec : {M : Type 1} → statement M
@@ -29,11 +28,10 @@ event-with-offset-spec =
     (λ c. search needs)  -- enum-known-left
     (λ c. search needs)  -- enum-told
     (λ c. let v = went (c .before .before .sign .ensures) (c .enum-told .given .1) in rw (v .is))  -- returns
-    (λ c κs. search needs)  -- name-requires
+    (λ c κs. search needs)  -- named-requires
     (λ c. search needs)  -- enum-known-name
     (λ c. search needs)  -- enum-told-2
-    (λ c. let w = left (c .before .before .before .before) in let v = was (c .before .before .name .ensures) (c .enum-told2 .given .1) in rw (w .is, v .is))  -- returns-2
-    (λ c. omega (arith, event (c .before) .1 .small))  -- cast-moved
+    (λ c. let w = left (c .before .before .before .before) in let v = called (c .before .before .named .ensures) (c .enum-told2 .given .1) in rw (w .is, v .is))  -- returns-2
     (λ c κs. search needs)  -- with-offset-requires
     (λ c. search needs)  -- enum-known-time
     (λ c. search needs)  -- enum-told-3
