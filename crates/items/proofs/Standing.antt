@@ -12,9 +12,11 @@ use Rattle.names.specs.Read.{Read, got, none, refused, Reader, follow, nothing,
 use Rattle.names.specs.Texts.{byte, blank, blanks}
 use Rattle.names.specs.Numbers.{isDigit, digit, enough, upTo, digits, clockAfter, number, year, hour}
 use Rattle.names.specs.declared.Manner.{Manner}
-use Rattle.names.specs.Names.{word, name, weekday, month, event, easter, holiday, week}
+use Rattle.names.specs.Spellings.{odd, named, spelled}
+use Rattle.names.specs.Names.{Word, word, name, weekday, month, event, easter, holiday, week}
 use Rattle.names.proofs.Laws.{one-is, within-above, within-range, or-none}
 use Rattle.names.proofs.Search.{no-word, word-letter}
+use Rattle.names.proofs.Odd.{named-got, named-none, spelled-got, spelled-none}
 use Rattle.records.specs.declared.Item.{Item}
 use Rattle.records.proofs.Anywhere.{item-after}
 use Rattle.times.specs.Times.{clock, eventAlone, eventWithOffset, rawTime}
@@ -30,7 +32,7 @@ use Rattle.dates.specs.Weeks.{weekShape, weekItem}
 use Rattle.items.specs.Musts.{missingAt, missing, must}
 use Rattle.items.specs.Kinds.{afterBlank, Placed, at, weeks, itemOf}
 use Rattle.items.specs.Sets.{beginsWith}
-use Rattle.items.specs.Seen.{atPlace, placeAfter, placeOf, afterName}
+use Rattle.items.specs.Seen.{atPlace, placeAfter, placeOf, monthDayNamed, afterName}
 use Rattle.items.specs.declared.Kind.{Kind}
 use Rattle.items.proofs.Blanks.{blanks-again}
 use Rattle.items.specs.declared.Kind.the-variants.{Years, MonthDays, Weeks, WeekNumbers, Weekdays, LastWeekdays, Holidays, LastHolidays, Times}
@@ -97,9 +99,9 @@ module _ (s : List ℕ) (i : ℕ) where
     no-bracket = rw (not-below (eqb 40) refl (λ b h. ne-eqb 40 b (λ e. omega arith)))
 
     -- a time that begins with an event, or none
-    timed : k ≡ event → rawTime s i ≡ got (eventAlone v) j
+    timed : k ≡ event → rawTime s i ≡ got (eventAlone (v, odd event s i j)) j
     unfolding rawTime
-    timed e = rw (clock-none no-digit, name-is event w e)
+    timed e = rw (clock-none no-digit, named-got s i event (name-is event w e))
 
     pub event-time : k ≡ event → timeItem m s i ≡ eventItemAfter m i v s j
     unfolding timeItem spanShape eventItemAfter
@@ -107,16 +109,16 @@ module _ (s : List ℕ) (i : ℕ) where
 
     pub other-time : (k ≡ event → ⊥) → timeItem m s i ≡ none
     unfolding timeItem spanShape rawTime
-    other-time e = rw (clock-none no-digit, name-other event w e, no-bracket)
+    other-time e = rw (clock-none no-digit, named-none s i event (name-other event w e), no-bracket)
 
     -- a weekday, a holiday
     pub is-weekday : k ≡ weekday → weekdayItem m s i ≡ weekdayItemAfter m i v s j
     unfolding weekdayItem weekdayShape weekdayItemAfter
-    is-weekday e = item-after (name weekday) (weekdayAfter m) weekdayMeaning (name-is weekday w e)
+    is-weekday e = item-after (named weekday) (weekdayAfter m) weekdayMeaning (named-got s i weekday (name-is weekday w e))
 
     pub no-weekday : (k ≡ weekday → ⊥) → weekdayItem m s i ≡ none
     unfolding weekdayItem weekdayShape
-    no-weekday e = rw (name-other weekday w e)
+    no-weekday e = rw (named-none s i weekday (name-other weekday w e))
 
     pub is-holiday : k ≡ holiday → holidayItem s i ≡ holidayItemAfter i v s j
     unfolding holidayItem holidayShape holidayItemAfter
@@ -131,9 +133,9 @@ module _ (s : List ℕ) (i : ℕ) where
     unfolding yearItem yearShape
     no-year = rw (year-none no-digit)
 
-    pub month-day : monthDayItem s i ≡ monthDayAfter i Absent (k, v) s j
+    pub month-day : monthDayItem s i ≡ monthDayNamed i (k, v) s j
     unfolding monthDayItem
-    month-day = rw (no-year-before (year-none no-digit), w)
+    month-day = rw (no-year-before (year-none no-digit), spelled-got s i w)
 
     -- none, where the name begins no date
     no-date : (k ≡ month → ⊥) → (k ≡ easter → ⊥) → monthDayItem s i ≡ none
@@ -171,7 +173,7 @@ module _ (s : List ℕ) (i : ℕ) where
     unfolding afterName
     after-weekday e = rw (eq-eqb k weekday e)
 
-    after-date : (t u : Bool) → eqb k month ≡ t → eqb k easter ≡ u → (t || u) ≡ true → afterName m i k v ≡ monthDayAfter i Absent (k, v)
+    after-date : (t u : Bool) → eqb k month ≡ t → eqb k easter ≡ u → (t || u) ≡ true → afterName m i k v ≡ monthDayNamed i (k, v)
     unfolding afterName
     after-date true u e f h = let d = eqb-true k month e in rw (ne-eqb k weekday (λ q. omega arith), e)
     after-date false true e f h = let d = eqb-true k easter f in rw (ne-eqb k weekday (λ q. omega arith), e, f)
@@ -255,7 +257,7 @@ module _ (s : List ℕ) (i : ℕ) where
     -- none of the kinds that begin with a name
     pub weekday-none : (m : Manner) → at (weekdayItem m) s i ≡ none
     unfolding weekdayItem weekdayShape
-    weekday-none m = rw (name-none weekday w)
+    weekday-none m = rw (named-none s i weekday (name-none weekday w))
 
     pub holiday-none : at holidayItem s i ≡ none
     unfolding holidayItem holidayShape
@@ -312,23 +314,23 @@ module _ (s : List ℕ) (i : ℕ) {y d : ℕ} (e : year s i ≡ got y d) where
   year-item = item-after year yearAfter yearMeaning e
 
   -- the year belongs to a date: a blank, and a name that begins one
-  pub dated-is : {j k v l : ℕ} → blank s d ≡ got tt j → word s j ≡ got (k, v) l → monthDayItem s i ≡ monthDayAfter i (Given y) (k, v) s l
+  pub dated-is : {j l : ℕ} {w : Word × Bool} → blank s d ≡ got tt j → spelled s j ≡ got w l → monthDayItem s i ≡ monthDayAfter i (Given y) w s l
   unfolding monthDayItem optionalYear
   dated-is b w = rw (e, b, w)
 
-  pub undated-name : {j : ℕ} → blank s d ≡ got tt j → word s j ≡ none → monthDayItem s i ≡ none
+  pub undated-name : {j : ℕ} → blank s d ≡ got tt j → spelled s j ≡ none → monthDayItem s i ≡ none
   unfolding monthDayItem optionalYear
   undated-name b w = rw (e, b, w)
 
   pub undated-blank : blank s d ≡ none → monthDayItem s i ≡ none
   unfolding monthDayItem optionalYear
-  undated-blank b = rw (e, b, year-no-word)
+  undated-blank b = rw (e, b, spelled-none s i year-no-word)
 
 -- neither a name nor a year: nothing that begins with one
 module _ (s : List ℕ) (i : ℕ) (e : year s i ≡ none) where
   pub no-month-day : word s i ≡ none → monthDayItem s i ≡ none
   unfolding monthDayItem
-  no-month-day w = rw (no-year-before s i e, w)
+  no-month-day w = rw (no-year-before s i e, spelled-none s i w)
 
   pub no-year-item : yearItem s i ≡ none
   unfolding yearItem yearShape

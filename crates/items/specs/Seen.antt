@@ -5,10 +5,11 @@ use mathlib.Core.Bool.{Bool}
 use mathlib.Core.Path.{_≡_}
 use lib.Dec.{eqb}
 use Rattle.names.specs.Tests.{if_then_else_}
-use Rattle.names.specs.Read.{Read, got, none, refused, Reader, follow, nothing, pure}
+use Rattle.names.specs.Read.{Read, got, none, refused, Reader, follow, nothing, pure, _>>=_}
 use Rattle.names.specs.Texts.{blanks}
 use Rattle.names.specs.declared.Manner.{Manner}
-use Rattle.names.specs.Names.{word, weekday, month, event, easter, holiday, week}
+use Rattle.names.specs.Spellings.{oddFrom}
+use Rattle.names.specs.Names.{Word, word, weekday, month, event, easter, holiday, week}
 use Rattle.records.specs.declared.Item.{Item}
 use Rattle.times.specs.Spans.{eventItemAfter}
 use Rattle.days.specs.Weekdays.{weekdayItemAfter}
@@ -73,12 +74,18 @@ unfoldable pub wished : ℕ → List Kind → Wish
 wished n [] = Not
 wished n (k ∷ ks) = if beginsWith n k then As k else wished n ks
 
+-- the month day without a year that begins at p with a name, after that name
+abbrev pub monthDayNamed : ℕ → Word → Reader Item
+monthDayNamed p w = do
+  odd ← oddFrom (w .0) p
+  monthDayAfter p Absent (w, odd)
+
 -- the item that begins at p with a name of kind n, which is v of its kind, after that name
 unfoldable pub afterName : Manner → ℕ → ℕ → ℕ → Reader Item
 afterName m p n v =
     if eqb n weekday then weekdayItemAfter m p v
-    else if eqb n month then monthDayAfter p Absent (n, v)
-    else if eqb n easter then monthDayAfter p Absent (n, v)
+    else if eqb n month then monthDayNamed p (n, v)
+    else if eqb n easter then monthDayNamed p (n, v)
     else if eqb n event then eventItemAfter m p v
     else if eqb n holiday then holidayItemAfter p v
     else if eqb n week then must (afterBlank weekItem)

@@ -1,7 +1,9 @@
 // One look at a place: a name is looked up once, and the item goes by its kind; else by its numbers.
+ghost use Prim.Native.Nat.{_≤_, _<_};
 ghost use mathlib.Core.Bool.{_||_};
 ghost use mathlib.Core.List.{[], _∷_};
 ghost use mathlib.Core.Path.{_≡_};
+ghost use lib.ListN.{length};
 ghost use Rattle.names.specs.Read.{got, none};
 ghost use Rattle.names.specs.Names.{word};
 ghost use Rattle.names.specs.declared.Manner.{Manner};
@@ -36,6 +38,7 @@ use names::HOLIDAY;
 use names::MONTH;
 use names::Manner;
 use names::Num;
+use names::Spelled;
 use names::Step;
 use names::WEEK;
 use names::WEEKDAY;
@@ -68,11 +71,16 @@ fn found(s: &[u8], c: Cursor, m: ItemRead, kind: Kind) -> Stands
 
 // The item at c that begins with a name of this kind and value, up to d.
 fn begun(s: &[u8], m: Manner, c: Cursor, name: u8, value: u8, d: Cursor) -> ItemRead
+    requires { ⌜ c .at < d .at ⌝ }
+    requires { ⌜ d .at ≤ length (now s) ⌝ }
     ensures { λ r. ⌜ afterName m (c .at) name value (now (s .entry)) (d .at) ≡ seenItem r ⌝ }
 {
     match name {
         WEEKDAY => weekday_item_after(s, m, c.at, d, value),
-        MONTH | EASTER => month_day_item_after(s, c.at, d, Year::Absent, name, value),
+        MONTH | EASTER => {
+            let odd = c.odd(s, name, d);
+            month_day_item_after(s, c.at, d, Year::Absent, name, value, odd)
+        }
         EVENT => event_item_after(s, m, c.at, d, value),
         HOLIDAY => holiday_item_after(s, c.at, d, value),
         WEEK => must(s, d, week_after_blank(s, d)),
@@ -113,11 +121,11 @@ fn dated(s: &[u8], c: Cursor, y: u16, d: Cursor) -> ItemRead
     let Step::Got(e) = after else {
         return ItemRead::Missing;
     };
-    let name = e.word(s);
-    let Word::Got(kind, value, f) = name else {
+    let name = e.spelled(s);
+    let Spelled::Got(kind, value, odd, f) = name else {
         return ItemRead::Missing;
     };
-    month_day_item_after(s, c.at, f, Year::Given(y), kind, value)
+    month_day_item_after(s, c.at, f, Year::Given(y), kind, value, odd)
 }
 
 // A month day at c, where one is wanted and a year stands, up to d.

@@ -12,13 +12,15 @@ begun-spec =
     tie.close
     (tie.spec
     (λ c κs. search needs)  -- weekday-item-after-requires
+    (λ c κs. search needs)  -- odd-requires
     (λ c κs. search needs)  -- month-day-item-after-requires
     (λ c κs. search needs)  -- event-item-after-requires
     (λ c κs. search needs)  -- holiday-item-after-requires
     (λ c κs. search needs)  -- week-after-blank-requires
     (λ c κs. search needs)  -- must-requires
     (λ c. rw (c .before .match .keys1) (c .weekday-item-after .ensures))  -- returns
-    (λ c. ⊎-elim (λ e. rw e (rw e at (c .month-day-item-after .ensures))) (λ e. rw e (rw e at (c .month-day-item-after .ensures))) (c .before .match .keys2))  -- returns-2
+    (λ c. let o = c .before in let ends = rw (o .odd .ensures) at (c .month-day-item-after .ensures) in
+    ⊎-elim (λ e. rw e (rw e at ends)) (λ e. rw e (rw e at ends)) (o .before .match .keys2))  -- returns-2
     (λ c. rw (c .before .match .keys3) (c .event-item-after .ensures))  -- returns-3
     (λ c. rw (c .before .match .keys4) (c .holiday-item-after .ensures))  -- returns-4
     (λ c. rw (c .before .before .match .keys5, c .before .week-after-blank .ensures) (c .must .ensures))  -- returns-5

@@ -1,5 +1,7 @@
 use borrow.Author.Needs.{needs}
 use mathlib.Core.Path.{_≡_, sym, ap, _∙_}
+use Rattle.names.proofs.Local.{past-one}
+use Rattle.names.proofs.NameCut.{word-local}
 use Rattle.records.specs.Seen.{seenItem}
 use Rattle.items.specs.Sets.{kindsOf}
 use Rattle.items.specs.Seen.{wished}
@@ -23,7 +25,7 @@ named-spec =
     (λ c. search needs)  -- enum-known-wish
     (λ c. search needs)  -- enum-told
     (λ c. let w = c .before .before .before .before .pre in (unwished _ _ _ w _ (sym (c .before .before .wanted-as .ensures) ∙ c .enum-told .given .1), w))  -- returns
-    (λ c κs. search needs)  -- begun-requires
+    (λ c κs. past-one word-local (c .before .before .before .before .before .pre))  -- begun-requires
     (λ c. search needs)  -- enum-known-item
     (λ c κs. search needs)  -- place-of-requires
     (λ c. search needs)  -- enum-told-2
