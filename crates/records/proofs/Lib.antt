@@ -5,3 +5,4 @@ pub mod Anywhere
 pub mod Stores
 pub mod Keeps
 pub mod Cells
+pub mod Warned

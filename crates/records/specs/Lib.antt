@@ -3,3 +3,4 @@ pub mod Words
 pub mod Bytes
 pub mod Tables
 pub mod Seen
+pub mod Warnings

@@ -3,6 +3,7 @@ mod bytes;
 mod items;
 mod slots;
 mod tables;
+mod warnings;
 mod words;
 
 pub use bytes::put_word;
@@ -11,6 +12,7 @@ pub use items::signed;
 use names::Cursor;
 pub use tables::keep;
 pub use tables::keep_item;
+pub use warnings::warnings_in;
 
 // Years from first to last, each step'th.
 pub struct YearRange {
