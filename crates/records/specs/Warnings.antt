@@ -6,6 +6,10 @@ use Rattle.records.specs.declared.Odd.{Odd}
 use Rattle.records.specs.declared.Item.{Item}
 use Rattle.records.specs.declared.Item.the-variants.{Years, Months, Dates, Weeks, Weekdays, Holidays, Times}
 
+-- a text has at most so many: 6 for each of at most 4,096 records (`item-warnings-few`, proofs/Warned.antt)
+abbrev pub mostWarnings : ℕ
+mostWarnings = 24576
+
 -- a warning for a name, or none
 abbrev pub once : Bool → ℕ
 once odd = if odd then 1 else 0

@@ -1,6 +1,6 @@
 -- Each definition depends on nothing before its place and nothing from a `;` outside quotes on: the lemmas put together as the definitions are.
 use Prim.Native.Nat.{ℕ, zero, suc, _+_, _-_, _<_}
-use mathlib.Core.List.{List, _∷_, _++_, append-nil}
+use mathlib.Core.List.{List, [], _∷_, _++_, append-nil}
 use mathlib.Core.List as list
 use mathlib.Core.Bool.{Bool, true, false, _||_}
 use mathlib.Core.Path.{_≡_, refl, sym, ap, _∙_}
@@ -23,8 +23,10 @@ use Rattle.names.proofs.Local.{maybe-local, inner-local, quote-local, ahead-loc
 use Rattle.names.proofs.Ended.{byte-ended, atEnd-ended}
 use Rattle.names.proofs.Chains.{step-moves, chain-moves, chain-local, chain-takes, many-local}
 use Rattle.names.proofs.Cut.{byte-local, blanks-local, blank-local, comma-local}
-use Rattle.names.proofs.NameCut.{plain, allOf-local, name-local}
+use Rattle.names.proofs.NameCut.{plain, allOf-local}
+use Rattle.names.proofs.Odd.{named-local}
 use Rattle.names.specs.declared.Manner.{Manner}
+use Rattle.records.specs.Warnings.{itemWarnings}
 use Rattle.items.specs.Kinds.{afterBlank, Placed}
 use Rattle.items.specs.declared.Kind.{Kind}
 use Rattle.items.proofs.Cut.{missing-local, must-local, placedMoves, itemIn-local}
@@ -34,7 +36,7 @@ use Rattle.rules.specs.Comments.{commentOf, noComment, closed, illFormed
 use Rattle.rules.specs.Modifiers.{tailOf, withComment, modifier}
 use Rattle.rules.specs.Rows.{small, first, listed, following, isWide}
 use Rattle.rules.specs.Pieces.{empty, itemFrom, goesOn, afterColon, colonSign, colon, more, plainEnd, end}
-use Rattle.rules.specs.Rules.{openingOf, always, wideComment, opening, wins, Rule, ruleOf, afterOpening, rule}
+use Rattle.rules.specs.Rules.{openingOf, always, wideComment, opening, wins, tailWarnings, itemsWarnings, Rule, ruleOf, afterOpening, rule}
 use Rattle.rules.specs.Separators.{commaBlank, bars, separator, next, stop, ruleEnd}
 use Rattle.rules.specs.declared.Comment.{Comment}
 use Rattle.rules.specs.declared.Opening.{Opening}
@@ -55,13 +57,13 @@ abbrev pub commentMoves : ℕ → Comment → Comment
 commentMoves n c = commentOf (startMoves n c.length c.start) c.length
 
 abbrev pub tailMoves : ℕ → Tail → Tail
-tailMoves n t = tailOf t.state (commentMoves n t.comment)
+tailMoves n t = tailOf t.state (commentMoves n t.comment) t.odd
 
 abbrev pub openingMoves : ℕ → Opening → Opening
 openingMoves n o = openingOf o.stage (commentMoves n o.comment)
 
 abbrev pub headMoves : ℕ → Head → Head
-headMoves n h = record { place = n + h.place; separator = h.separator; state = h.state; comment = commentMoves n h.comment; items = h.items }
+headMoves n h = record { place = n + h.place; separator = h.separator; state = h.state; comment = commentMoves n h.comment; items = h.items; warnings = h.warnings }
 
 abbrev pub ruleMoves : ℕ → Rule → Rule
 ruleMoves n r = (headMoves n (r .0), list.map (placedMoves n) (r .1))
@@ -172,17 +174,17 @@ commentApart-local = bind-local blank-local (λ _. comment-local)
 
 -- ---- modifiers
 
-pub withComment-local : {u : List ℕ} (state : ℕ) → Local Stop tailMoves u false false 0 (withComment state) (withComment state)
+pub withComment-local : {u : List ℕ} (state : ℕ) (odd : Bool) → Local Stop tailMoves u false false 0 (withComment state odd) (withComment state odd)
 unfolding withComment
-withComment-local state = map-local (tailOf state) (tailOf state) (λ c. refl) (maybe-local commentApart-local noComment)
+withComment-local state odd = map-local (λ c. tailOf state c odd) (λ c. tailOf state c odd) (λ c. refl) (maybe-local commentApart-local noComment)
 
 pub modifier-local : {u : List ℕ} → Local Stop tailMoves u false false 1 modifier modifier
 unfolding modifier
-modifier-local = or-local (then-local (name-local names.modifier) withComment-local) (map-local (tailOf 0) (tailOf 0) (λ c. refl) comment-local)
+modifier-local = or-local (then-local (named-local names.modifier) (λ w. withComment-local (w .0) (w .1))) (map-local (λ c. tailOf 0 c false) (λ c. tailOf 0 c false) (λ c. refl) comment-local)
 
 -- a modifier after a blank, or none
-selected-local : {u : List ℕ} → Local Stop tailMoves u false false 0 (branch (afterBlank modifier) pure (pure (tailOf 0 noComment))) (branch (afterBlank modifier) pure (pure (tailOf 0 noComment)))
-selected-local = maybe-local (bind-local blank-local (λ _. modifier-local)) (tailOf 0 noComment)
+selected-local : {u : List ℕ} → let t = tailOf 0 noComment false in Local Stop tailMoves u false false 0 (branch (afterBlank modifier) pure (pure t)) (branch (afterBlank modifier) pure (pure t))
+selected-local = maybe-local (bind-local blank-local (λ _. modifier-local)) (tailOf 0 noComment false)
 
 -- ---- openings
 
@@ -298,12 +300,18 @@ wins-moves n c wide = go (eqb c.length 0)
     go true = refl
     go false = refl
 
+-- items that move have the same warnings
+warnings-move : (n : ℕ) (l : List Placed) → itemsWarnings (list.map (placedMoves n) l) ≡ itemsWarnings l
+unfolding itemsWarnings
+warnings-move n [] = refl
+warnings-move n (a ∷ l) = ap (λ k. itemWarnings (a .0) + k) (warnings-move n l)
+
 -- the rule of pieces that move
 rule-moves : (n place separator : ℕ) (wide : Comment) (r : List Placed × Tail) → ruleOf (n + place) separator (commentMoves n wide) (piecesMoves n r) ≡ ruleMoves n (ruleOf place separator wide r)
 rule-moves n place separator wide r =
-    rw (length-map (r .0) (placedMoves n))
+    rw (length-map (r .0) (placedMoves n), warnings-move n (r .0))
     (ap (λ (c : Comment). (
-      record { place = n + place; separator = separator; state = r .1 .state; comment = c; items = length (r .0) },
+      record { place = n + place; separator = separator; state = r .1 .state; comment = c; items = length (r .0); warnings = itemsWarnings (r .0) + tailWarnings (r .1) },
       list.map (placedMoves n)
           (r .0),
     )) (wins-moves n (r .1 .comment) wide))

@@ -140,7 +140,7 @@ abbrev begun : List ℕ
 begun = 1 ∷ 2 ∷ 3 ∷ []
 
 -- without a modifier, a rule with selectors is open
-pub open-end : (x : Stage) → OneOf begun (tagOf stage-type x) → plainEnd x ≡ pure (tailOf 0 noComment)
+pub open-end : (x : Stage) → OneOf begun (tagOf stage-type x) → plainEnd x ≡ pure (tailOf 0 noComment false)
 unfolding plainEnd
 open-end Beginning k = absurd (miss begun 0 tt k)
 open-end Always k = refl

@@ -6,3 +6,4 @@ pub mod Turns
 pub mod Small
 pub mod Places
 pub mod Judged
+pub mod Warned

@@ -9,7 +9,7 @@ use lib.ListN.{length}
 use Rattle.names.specs.Tests.{if_then_else_}
 use Rattle.names.specs.Read.{Read, got, follow, branch, nothing, pure, refuse, map, _>>_, _or_}
 use Rattle.names.specs.Texts.{byte, bytes, blank, blanks, allOf}
-use Rattle.names.specs.Names.{name}
+use Rattle.names.specs.Spellings.{named}
 use Rattle.names.specs.Names as names
 use Rattle.items.specs.Musts.{missing}
 use Rattle.items.specs.Kinds.{afterBlank}
@@ -53,18 +53,18 @@ module _ (s : List ℕ) where
   unfolding commentApart
   afterBlank-small i = found-then _ s i _ (blank s i) (λ _ j _. comment-small j)
 
-  with-small : (state i : ℕ) → Found (SmallEnd (length s)) (withComment state s i)
+  with-small : (state : ℕ) (odd : Bool) (i : ℕ) → Found (SmallEnd (length s)) (withComment state odd s i)
   unfolding withComment
-  with-small state i =
+  with-small state odd i =
       let h = found-or (Small (length s)) s i (commentApart s i) (pure noComment) (afterBlank-small i) (no-small (length s)) in
       found-then _ s i _ (follow s i (commentApart s i) pure (pure noComment)) (λ c j e. found-is (Small (length s)) _ h e)
 
   modifier-small : (i : ℕ) → Found (SmallEnd (length s)) (modifier s i)
   unfolding modifier
   modifier-small i =
-      let named-small = found-then (SmallEnd (length s)) s i withComment (name names.modifier s i) (λ state j _. with-small state j) in
-      let bare-small = found-then (SmallEnd (length s)) s i (λ c. pure (tailOf 0 c)) (comment s i) (λ c j e. found-is (Small (length s)) (comment s i) (comment-small i) e) in
-      found-or (SmallEnd (length s)) s i (branch (name names.modifier) withComment nothing s i) (map (tailOf 0) comment) named-small bare-small
+      let named-small = found-then (SmallEnd (length s)) s i (λ w. withComment (w .0) (w .1)) (named names.modifier s i) (λ w j _. with-small (w .0) (w .1) j) in
+      let bare-small = found-then (SmallEnd (length s)) s i (λ c. pure (tailOf 0 c false)) (comment s i) (λ c j e. found-is (Small (length s)) (comment s i) (comment-small i) e) in
+      found-or (SmallEnd (length s)) s i (branch (named names.modifier) (λ w. withComment (w .0) (w .1)) nothing s i) (map (λ c. tailOf 0 c false) comment) named-small bare-small
 
   -- what is missing has no value
   missing-small : {A : Type 0} (P : A → Type 0) (i : ℕ) → Found P (missing s i)
@@ -77,10 +77,10 @@ module _ (s : List ℕ) where
   empty-small P i = found-then P s i (λ _. refuse 11 i) (ruleEnd s i) (λ _ j _. tt)
 
   -- a modifier after a blank, or none
-  selected-small : (i : ℕ) → Found (SmallEnd (length s)) ((afterBlank modifier or pure (tailOf 0 noComment)) s i)
+  selected-small : (i : ℕ) → Found (SmallEnd (length s)) ((afterBlank modifier or pure (tailOf 0 noComment false)) s i)
   selected-small i =
       let apart-small = found-then (SmallEnd (length s)) s i (λ _. modifier) (blank s i) (λ _ j _. modifier-small j) in
-      found-or (SmallEnd (length s)) s i (afterBlank modifier s i) (pure (tailOf 0 noComment)) apart-small (no-small (length s))
+      found-or (SmallEnd (length s)) s i (afterBlank modifier s i) (pure (tailOf 0 noComment false)) apart-small (no-small (length s))
 
   -- the comment of a rule's end
   pub end-small : (x : Stage) (i : ℕ) → Found (SmallEnd (length s)) (end x s i)

@@ -10,11 +10,13 @@ use lib.Dec.{eqb}
 use lib.ListN.{length, getD}
 use Rattle.names.specs.Read.{Read, got, none, refused, Reader, follow, branch, nothing, pure, refuse, map, only, atEnd, _>>_, _or_}
 use Rattle.names.specs.Texts.{byte, blank, blanks, comma}
-use Rattle.names.specs.Names.{word, name}
+use Rattle.names.specs.Names.{word}
+use Rattle.names.specs.Spellings.{odd}
 use Rattle.names.specs.Refusals.{emptyRule}
 use Rattle.names.specs.Names as names
 use Rattle.names.proofs.Laws.{one-is}
 use Rattle.names.proofs.Search.{word-letter}
+use Rattle.names.proofs.Odd.{named-got, named-none}
 use Rattle.names.proofs.Skips.{map-map}
 use Rattle.names.specs.declared.Manner.{Manner}
 use Rattle.items.specs.Musts.{missing, must}
@@ -39,11 +41,11 @@ use Rattle.rules.specs.declared.Stage.{Stage}
 use Rattle.rules.specs.declared.Stage.the-variants.{Beginning, Always, Colon, After}
 
 -- after a modifier's word there is always an end
-with-comment-sure : (s : List ℕ) (v l : ℕ) → Sure (withComment v s l)
+with-comment-sure : (s : List ℕ) (v : ℕ) (odd : Bool) (l : ℕ) → Sure (withComment v odd s l)
 unfolding withComment
-with-comment-sure s v l = go (commentApart s l)
+with-comment-sure s v odd l = go (commentApart s l)
   where
-    go : (r : Read Comment) → Sure (follow s l (follow s l r pure (pure noComment)) (λ c. pure (tailOf v c)) nothing)
+    go : (r : Read Comment) → Sure (follow s l (follow s l r pure (pure noComment)) (λ c. pure (tailOf v c odd)) nothing)
     go (got c k) = tt
     go none = tt
     go (refused k p) = tt
@@ -203,11 +205,12 @@ module _ (m : Manner) (s : List ℕ) (j : ℕ) (ks : List Kind) where
     may-refused e = rw e
 
     -- a modifier's name
-    pub may-modifier : {n v l : ℕ} → itemIn m ks s j ≡ none → word s j ≡ got (n, v) l → n ≡ names.modifier → may ≡ map inr (withComment v) s l
+    pub may-modifier : {n v l : ℕ} → itemIn m ks s j ≡ none → word s j ≡ got (n, v) l → n ≡ names.modifier → may ≡ map inr (withComment v (odd names.modifier s j l)) s l
     unfolding modifier
-    may-modifier {n} {v} {l} e w q = rw (e, name-is s j names.modifier w q) (go (withComment v s l) (with-comment-sure s v l))
+    may-modifier {n} {v} {l} e w q =
+        let o = odd names.modifier s j l in rw (e, named-got s j names.modifier (name-is s j names.modifier w q)) (go (withComment v o s l) (with-comment-sure s v o l))
       where
-        go : (r : Read Tail) → Sure r → follow s j (follow s j r pure (map (tailOf 0) comment)) ends (λ s _. map inr (plainEnd x) s i) ≡ follow s l r ends nothing
+        go : (r : Read Tail) → Sure r → follow s j (follow s j r pure (map (λ c. tailOf 0 c false) comment)) ends (λ s _. map inr (plainEnd x) s i) ≡ follow s l r ends nothing
         go (got t q) h = refl
         go none h = absurd h
         go (refused q p) h = refl
@@ -216,15 +219,15 @@ module _ (m : Manner) (s : List ℕ) (j : ℕ) (ks : List Kind) where
     pub may-other : {n v l : ℕ} → itemIn m ks s j ≡ none → word s j ≡ got (n, v) l → (n ≡ names.modifier → ⊥) → may ≡ map inr (plainEnd x) s i
     unfolding modifier comment byte
     may-other {n} {v} {l} e w q =
-        rw (e, name-other s j names.modifier w q, one-is (eqb 34) refl s j refl (ne-eqb 34 (getD s j 0) (λ q. omega (arith, word-letter s j w))))
+        rw (e, named-none s j names.modifier (name-other s j names.modifier w q), one-is (eqb 34) refl s j refl (ne-eqb 34 (getD s j 0) (λ q. omega (arith, word-letter s j w))))
 
     -- no name
-    pub may-unnamed : itemIn m ks s j ≡ none → word s j ≡ none → may ≡ branch comment (λ m. pure (inr (tailOf 0 m))) (λ s _. map inr (plainEnd x) s i) s j
+    pub may-unnamed : itemIn m ks s j ≡ none → word s j ≡ none → may ≡ branch comment (λ m. pure (inr (tailOf 0 m false))) (λ s _. map inr (plainEnd x) s i) s j
     unfolding modifier
-    may-unnamed e w = rw (e, name-none s j names.modifier w) (go (comment s j))
+    may-unnamed e w = rw (e, named-none s j names.modifier (name-none s j names.modifier w)) (go (comment s j))
       where
-        go : (r : Read Comment) → follow s j (follow s j r (λ c. pure (tailOf 0 c)) nothing) ends (λ s _. map inr (plainEnd x) s i) ≡ follow s j r (λ m. pure (inr
-            (tailOf 0 m))) (λ s _. map inr (plainEnd x) s i)
+        go : (r : Read Comment) → follow s j (follow s j r (λ c. pure (tailOf 0 c false)) nothing) ends (λ s _. map inr (plainEnd x) s i) ≡ follow s j r (λ m. pure (inr
+            (tailOf 0 m false))) (λ s _. map inr (plainEnd x) s i)
         go (got c q) = refl
         go none = refl
         go (refused q p) = refl

@@ -1,4 +1,5 @@
 -- The pieces of a rule, in order: what may stand after what was read last (docs/RULES.md, 1).
+use mathlib.Core.Bool.{false}
 use mathlib.Core.List.{List}
 use mathlib.Core.Logic.{_⊎_, inl, inr}
 use Rattle.names.specs.Read.{Reader, branch, nothing, pure, refuse, here, map, only, _>>_, _>>=_, _or_}
@@ -58,9 +59,9 @@ empty = do
 -- how a rule ends without a modifier: with selectors it is open
 unfoldable pub plainEnd : Stage → Reader Tail
 plainEnd Beginning = empty or missing
-plainEnd Always = pure (tailOf 0 noComment)
-plainEnd Colon = pure (tailOf 0 noComment)
-plainEnd (After k) = pure (tailOf 0 noComment)
+plainEnd Always = pure (tailOf 0 noComment false)
+plainEnd Colon = pure (tailOf 0 noComment false)
+plainEnd (After k) = pure (tailOf 0 noComment false)
 
 -- how a rule ends: a modifier has to stand there without selectors, and may stand after them and a blank
 unfoldable pub end : Stage → Reader Tail

@@ -1,12 +1,13 @@
 -- One rule, and what parts it from the next (docs/RULES.md, 1).
-use Prim.Native.Nat.{ℕ}
-use mathlib.Core.List.{List}
+use Prim.Native.Nat.{ℕ, _+_}
+use mathlib.Core.List.{List, [], _∷_}
 use lib.Dec.{eqb}
 use lib.ListN.{length}
 use Rattle.names.specs.Tests.{if_then_else_}
 use Rattle.names.specs.Read.{Reader, branch, pure, here, map, _>>=_, _>>_, _or_}
 use Rattle.names.specs.Chain.{chain}
 use Rattle.names.specs.Texts.{bytes, sign, allOf}
+use Rattle.records.specs.Warnings.{itemWarnings}
 use Rattle.items.specs.Kinds.{Placed}
 use Rattle.rules.specs.Comments.{noComment, comment}
 use Rattle.rules.specs.Pieces.{more, end}
@@ -50,9 +51,19 @@ plainAt stage c = Got (openingOf stage noComment) c
 unfoldable pub wins : Comment → Comment → Comment
 wins c wide = if eqb c.length 0 then wide else c
 
--- a rule's head
-abbrev pub headOf : ℕ → ℕ → Tail → Comment → ℕ → Head
-headOf place separator t wide items = record { place = place; separator = separator; state = t.state; comment = wins t.comment wide; items = items }
+-- how many warnings the word of a rule's modifier calls for
+abbrev pub tailWarnings : Tail → ℕ
+tailWarnings t = if t.odd then 1 else 0
+
+-- how many the names of its items do
+unfoldable pub itemsWarnings : List Placed → ℕ
+itemsWarnings [] = 0
+itemsWarnings (a ∷ l) = itemWarnings (a .0) + itemsWarnings l
+
+-- a rule's head: its items call for so many warnings, and its modifier's word may for one
+abbrev pub headOf : ℕ → ℕ → Tail → Comment → ℕ → ℕ → Head
+headOf place separator t wide items warned =
+    record { place = place; separator = separator; state = t.state; comment = wins t.comment wide; items = items; warnings = warned + tailWarnings t }
 
 -- a rule's head, and its items
 abbrev pub Rule : Type 0
@@ -60,7 +71,7 @@ Rule = Head × List Placed
 
 -- the items and the end, as a rule
 abbrev pub ruleOf : ℕ → ℕ → Comment → List Placed × Tail → Rule
-ruleOf place separator wide r = (headOf place separator (r .1) wide (length (r .0)), r .0)
+ruleOf place separator wide r = (headOf place separator (r .1) wide (length (r .0)) (itemsWarnings (r .0)), r .0)
 
 -- the pieces of a rule that begins at a place, after its opening
 unfoldable pub afterOpening : Manner → ℕ → ℕ → Opening → Reader Rule

@@ -34,10 +34,11 @@ pub struct Opening {
     pub comment: Comment,
 }
 
-// How a rule ends: 0 open, 1 closed, 2 unknown, and the modifier's comment.
+// How a rule ends: 0 open, 1 closed, 2 unknown, the modifier's comment, and whether the modifier's word is written unusually.
 pub struct Tail {
     pub state: u8,
     pub comment: Comment,
+    pub odd: bool,
 }
 
 // A place in a rule, and what was read last before it.
@@ -72,13 +73,14 @@ pub enum OpeningRead {
     Refused(u8, usize),
 }
 
-// A rule's head: its place, its separator, its state, its comment, and how many items it has.
+// A rule's head: its place, its separator, its state, its comment, how many items it has, and how many warnings its names call for.
 pub struct Head {
     pub place: usize,
     pub separator: u8,
     pub state: u8,
     pub comment: Comment,
     pub items: usize,
+    pub warnings: usize,
 }
 
 // What stands after a rule: a separator and then a rule, or the text's end.

@@ -23,8 +23,8 @@ pub fn no_comment() -> Comment
 }
 
 // After a modifier's word: optionally both blank and comment.
-pub fn with_comment(s: &[u8], c: Cursor, state: u8) -> Piece
-    ensures { λ r. ⌜ map inr (withComment state) (now (s .entry)) (c .at) ≡ seenPiece r ⌝ }
+pub fn with_comment(s: &[u8], c: Cursor, state: u8, odd: bool) -> Piece
+    ensures { λ r. ⌜ map inr (withComment state odd) (now (s .entry)) (c .at) ≡ seenPiece r ⌝ }
 {
     let read = comment_after_blank(s, c);
     match read {
@@ -32,6 +32,7 @@ pub fn with_comment(s: &[u8], c: Cursor, state: u8) -> Piece
             Tail {
                 state,
                 comment: some,
+                odd,
             },
             d,
         ),
@@ -41,6 +42,7 @@ pub fn with_comment(s: &[u8], c: Cursor, state: u8) -> Piece
                 Tail {
                     state,
                     comment: none,
+                    odd,
                 },
                 c,
             )

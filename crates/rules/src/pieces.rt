@@ -1,4 +1,5 @@
 // The pieces of a rule, in order: an item, or the rule's end.
+ghost use mathlib.Core.Bool.{false};
 ghost use mathlib.Core.Logic.{inl, inr};
 ghost use mathlib.Core.Path.{_≡_};
 ghost use Rattle.names.specs.Read.{branch, pure, map};
@@ -143,6 +144,7 @@ impl Spot {
                     Tail {
                         state: 0,
                         comment: none,
+                        odd: false,
                     },
                     Cursor { at },
                 )
@@ -152,7 +154,7 @@ impl Spot {
 
     // A comment alone at c, or else the rule's end.
     fn noted(self, s: &[u8], c: Cursor) -> Piece
-        ensures { λ r. ⌜ branch comment (λ m. pure (inr (tailOf 0 m))) (λ s _. map inr (pieces.plainEnd (self .stage)) s (self .at)) (now (s .entry)) (c .at) ≡ seenPiece r ⌝ }
+        ensures { λ r. ⌜ branch comment (λ m. pure (inr (tailOf 0 m false))) (λ s _. map inr (pieces.plainEnd (self .stage)) s (self .at)) (now (s .entry)) (c .at) ≡ seenPiece r ⌝ }
     {
         let alone = comment(s, c);
         match alone {
@@ -160,6 +162,7 @@ impl Spot {
                 Tail {
                     state: 0,
                     comment: some,
+                    odd: false,
                 },
                 d,
             ),
@@ -185,7 +188,7 @@ impl Spot {
                     return lacking(s, c);
                 }
                 if kind == MODIFIER {
-                    return with_comment(s, d, value);
+                    return with_comment(s, d, value, c.odd(s, MODIFIER, d));
                 }
                 self.ended(s)
             }

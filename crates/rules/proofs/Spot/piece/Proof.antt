@@ -9,6 +9,8 @@ use Rattle.items.specs.declared.Stands.{Stands}
 use Rattle.rules.specs.Pieces.{piece}
 use Rattle.rules.specs.Seen.{turned}
 use Rattle.rules.specs.declared.Turn.the-variants.{On, Over}
+use Rattle.names.proofs.Local.{past-one}
+use Rattle.names.proofs.NameCut.{word-local}
 use Rattle.rules.proofs.Turns.{has-none, may-modifier, may-other, may-unnamed, turned-item, turned-refused}
 use Rattle.rules.proofs.Spot.piece.Statement.{statement}
 use Rattle.rules.proofs.Spot.piece.Tie as tie
@@ -57,13 +59,15 @@ piece-spec =
     let a-name = must .before .before in
     let looked = a-name .before .before in
     has looked (must .if1 .taken) ∙ has-none _ _ _ _ (look looked (a-name .found3 .given .1) .0) ∙ c .lacking .ensures .0)  -- returns-2
+    (λ c κs. let a-name = c .before .before .before in past-one word-local (look (a-name .before .before) (a-name .found3 .given .1) .1))  -- odd-requires
     (λ c κs. search needs)  -- with-comment-requires
     (λ c.
-    let need-not = c .before .before in
+    let modifier = c .before .before in
+    let need-not = modifier .before in
     let a-name = need-not .before .before in
     let looked = a-name .before .before in
     let stands = look looked (a-name .found3 .given .1) in
-    may looked (need-not .if1 .left) ∙ may-modifier _ _ _ _ _ _ (stands .0) (stands .1) (c .before .if2 .taken) ∙ c .with-comment .ensures)  -- returns-3
+    may looked (need-not .if1 .left) ∙ may-modifier _ _ _ _ _ _ (stands .0) (stands .1) (modifier .if2 .taken) ∙ rw (c .before .odd .ensures) at (c .with-comment .ensures))  -- returns-3
     (λ c κs. search needs)  -- ended-requires-2
     (λ c. search needs)  -- enum-told-2
     (λ c κs. search needs)  -- lacking-requires-2
