@@ -2,6 +2,7 @@
 ghost use Prim.Native.Nat.{_≤_};
 ghost use mathlib.Core.List.{[], _∷_};
 ghost use mathlib.Core.Path.{_≡_};
+ghost use Rattle.records.specs.Warnings.{mostWarnings};
 ghost use Rattle.c_calls.specs.Calls.{flag, sheetNumbers, partNumbers, sheetCall, sheetCallIn, houseCall, partCall, partCallIn, housePartCall, noteCall, feedCall};
 use feed::read_feed_bytes;
 use sheet::Answer;
@@ -23,7 +24,7 @@ fn flag_of(x: bool) -> u32
 
 // A reading's numbers: the number is returned, place, records and warnings are stored.
 fn answer_numbers(a: Answer, place: &mut u32, records: &mut u32, warnings: &mut u32) -> u32
-    requires { ⌜ (a .place ≤ 4096) × (a .records ≤ 4096) × (a .warnings ≤ 4096) ⌝ }
+    requires { ⌜ (a .place ≤ 4096) × (a .records ≤ 4096) × (a .warnings ≤ mostWarnings) ⌝ }
     ensures { λ r. ⌜ (r ∷ now (place .exit) ∷ now (records .exit) ∷ now (warnings .exit) ∷ []) ≡ sheetNumbers a ⌝ }
 {
     *place = a.place as u32;
@@ -41,7 +42,7 @@ fn part_numbers(
     next: &mut u32,
     last: &mut u32,
 ) -> u32
-    requires { ⌜ (part .place ≤ 4096) × (part .records ≤ 4096) × (part .warnings ≤ 4096) × (part .next ≤ 4096) ⌝ }
+    requires { ⌜ (part .place ≤ 4096) × (part .records ≤ 4096) × (part .warnings ≤ mostWarnings) × (part .next ≤ 4096) ⌝ }
     ensures { λ r. ⌜ (r ∷ now (place .exit) ∷ now (records .exit) ∷ now (warnings .exit) ∷ now (next .exit) ∷ now (last .exit) ∷ []) ≡ partNumbers part ⌝ }
 {
     *place = part.place as u32;

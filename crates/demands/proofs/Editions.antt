@@ -34,7 +34,7 @@ text-kept : (s : List ℕ) (p n : ℕ) → textOf First s p n .0 .number ≡ 0 �
 unfolding textOf
 text-kept s p n = rw (first-rules s p, second-rules s p) (go _ (rules-wide s p) (rules-ended First [] .ends s [] p stop-end tt))
   where
-    go : (P : ℕ → Type 0) {x y : Read (List Rule × Unit {0})} → Wide Never x y → Ends P x → judgedText s p n x .0 .number ≡ 0 → judgedText s p n y ≡ judgedText s p n x
+    go : (P : ℕ → Type 0) {x y : Read (List Rule × Unit {0})} → Wide Never x y → Ends P x → judgedText p n x .0 .number ≡ 0 → judgedText p n y ≡ judgedText p n x
     go P same h e = refl
     go P (lost {x = got l j} d) h e = absurd d
     go P (lost {x = none} d) h e = absurd d

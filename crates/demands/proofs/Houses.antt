@@ -6,7 +6,7 @@ use mathlib.Core.Path.{_≡_, refl, sym, ap, _∙_, subst}
 use native.Mathlib.Omega.{arith}
 use lib.Dec.{ltb}
 use lib.IntN.{ℤ}
-use lib.ListN.{length, take, drop}
+use lib.ListN.{length, take}
 use Rattle.names.specs.Tests.{if_then_else_}
 use Rattle.names.specs.Read.{Reader, got, none, refused}
 use Rattle.names.specs.declared.Manner.the-variants.{First, House}
@@ -15,9 +15,8 @@ use Rattle.house.specs.Breaks.{rulesBreak}
 use Rattle.house.specs.declared.Break.{Break}
 use Rattle.house.specs.declared.Break.the-variants.{Nowhere, At}
 use Rattle.house.proofs.Profile.{exactly}
-use Rattle.sheet.specs.Texts.{rules, records}
+use Rattle.sheet.specs.Texts.{rules, records, warnings}
 use Rattle.sheet.specs.Sheets.{answerOf, refusal, judgedText, textOf, sheetBy}
-use Rattle.sheet.specs.Warnings.{warningsOf}
 use Rattle.sheet.specs.Parts.{begins, partEnd}
 use Rattle.sheet.specs.PartReadings.{withNext, partTo, partRefusal, partBy}
 use Rattle.sheet.specs.declared.Answer.{Answer}
@@ -38,10 +37,10 @@ same-refusal : (k q : ℕ) → 0 < k → Same (refusal k q) (refusal k q)
 same-refusal k q h = record { accepted = λ e. absurd (omega arith); accepts = λ e. absurd (omega arith); refuses = λ _ _. refl }
 
 -- rules that edition 1 read, by their first break
-module _ (l : List Rule) (p w : ℕ) where
+module _ (l : List Rule) (p : ℕ) where
   -- what they come to in a table that is too small, or not
   abbrev filled : Bool → Answer × List (List ℤ)
-  filled full = if full then refusal 10 p else (answerOf 0 0 (length (records l)) w, records l)
+  filled full = if full then refusal 10 p else (answerOf 0 0 (length (records l)) (warnings l), records l)
 
   unbroken-same : (full : Bool) → rulesBreak l ≡ Nowhere → Same (filled full) (filled full)
   unbroken-same true e = same-refusal 10 p (omega arith)
@@ -55,11 +54,11 @@ module _ (l : List Rule) (p w : ℕ) where
       nowhere k q e = let z : _≡_ {A = ℕ} 0 1 = cc in omega arith
 
 module _ (s : List ℕ) (p n : ℕ) where
-  read-same : (l : List Rule × Unit {0}) (j : ℕ) (b : Break) → rulesBreak (l .0) ≡ b → Numbered House (settled l j b) → Same (judgedText s p n (settled l j b)) (judgedText s p n (got l j))
-  read-same l j Nowhere e h = unbroken-same (l .0) p (warningsOf (drop p s)) (ltb (n / 16) (length (records (l .0)))) e
-  read-same l j (At k q) e h = broken-same (l .0) p (warningsOf (drop p s)) (ltb (n / 16) (length (records (l .0)))) k q e (number-positive House h)
+  read-same : (l : List Rule × Unit {0}) (j : ℕ) (b : Break) → rulesBreak (l .0) ≡ b → Numbered House (settled l j b) → Same (judgedText p n (settled l j b)) (judgedText p n (got l j))
+  read-same l j Nowhere e h = unbroken-same (l .0) p (ltb (n / 16) (length (records (l .0)))) e
+  read-same l j (At k q) e h = broken-same (l .0) p (ltb (n / 16) (length (records (l .0)))) k q e (number-positive House h)
 
-  rules-judged : (x : Rules) → Numbered House x → Same (judgedText s p n (judged House x)) (judgedText s p n x)
+  rules-judged : (x : Rules) → Numbered House x → Same (judgedText p n (judged House x)) (judgedText p n x)
   rules-judged (got l j) h = read-same l j (rulesBreak (l .0)) refl (judged-numbered House (got l j) tt)
   rules-judged none h = same-refusal 3 p (omega arith)
   rules-judged (refused k q) h = same-refusal k q (number-positive House h)

@@ -5,7 +5,6 @@ pub mod Alone
 pub mod PartMoves
 pub mod Exchange
 pub mod Places
-pub mod WarnedCut
 pub mod Together
 pub mod TogetherCalls
 pub mod TogetherWords

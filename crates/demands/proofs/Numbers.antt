@@ -55,7 +55,7 @@ pub text-number : (m : Manner) (s : List ℕ) (p n : ℕ) → Given m (textOf m 
 unfolding textOf
 text-number m s p n = go (judgedRules m s p) (judged-number m s p)
   where
-    go : (r : Rules) → Numbered m r → Given m (judgedText s p n r .0 .number)
+    go : (r : Rules) → Numbered m r → Given m (judgedText p n r .0 .number)
     go (got l j) h = either (Known m) (ltb (n / 16) (length (records (l .0)))) (refusal 10 p) _ (given m (omega arith)) (given m (omega arith))
     go none h = given m (omega arith)
     go (refused k q) h = given-refused m k h

@@ -9,6 +9,7 @@ use Rattle.names.specs.Tests.{within}
 use Rattle.names.specs.Texts.{byte, allOf, blanks, blank, comma}
 use Rattle.calendar.specs.Calendar.{leap, lastOfFebruary, hasThirty, lastOf, isDay}
 use Rattle.records.specs.Tables.{laid}
+use Rattle.records.specs.Warnings.{itemWarnings}
 use Rattle.records.specs.Words.{wordsOf}
 use Rattle.times.specs.Meanings.{eventOf, spanMeaning}
 use Rattle.times.specs.Spans.{repeated, tail, untilTime, spanAfter, spanShape, timeItem, eventItemAfter}
@@ -34,13 +35,12 @@ use Rattle.rules.specs.Modifiers.{withComment, modifier}
 use Rattle.items.specs.Musts.{hasQuote, atBrokenQuote, missingAt, missing}
 use Rattle.rules.specs.Pieces.{goesOn, colonSign, colon, empty, more, plainEnd, end}
 use Rattle.rules.specs.Separators.{commaBlank, bars, separator, next, stop, ruleEnd}
-use Rattle.rules.specs.Rules.{always, wideComment, opening, wins, afterOpening, rule}
+use Rattle.rules.specs.Rules.{always, wideComment, opening, wins, itemsWarnings, afterOpening, rule}
 use Rattle.sheet.specs.Heads.{headWords, itemRecord}
 use Rattle.sheet.specs.PartReadings.{withNext, partBy, partReadingBy}
 use Rattle.sheet.specs.Parts.{partIn, begins, partEnd, beginnings}
 use Rattle.sheet.specs.Sheets.{textOf, sheetBy, sheetReadingBy}
-use Rattle.sheet.specs.Texts.{parted, moreRules, noMore, rules, judgedRules, records}
-use Rattle.sheet.specs.Warnings.{isLetter, warningsIn}
+use Rattle.sheet.specs.Texts.{parted, moreRules, noMore, rules, judgedRules, records, warnings}
 
 -- nothing, over the line that opens them
 unfoldable pub opened : Unit {0}
@@ -53,5 +53,5 @@ unfolding chainIn chain many skip names spelledSo lower letter firstOf word name
     goodRange stepOf weekShape weekMeaning weekItem yearAfter yearShape yearMeaning yearItem yearItemAfter octet utf8-tail utf8-2 utf8-3 utf8-4 longer isInner plain letterOf
     letters closed illFormed comment commentApart weeks itemOf itemIn listed following isWide goesOn colonSign colon headWords itemRecord withComment modifier hasQuote
     atBrokenQuote missingAt missing empty more plainEnd end always wideComment opening wins afterOpening rule commaBlank bars separator next stop ruleEnd laid withNext partBy
-    partReadingBy partIn begins partEnd beginnings textOf sheetBy sheetReadingBy parted moreRules noMore rules judgedRules records isLetter warningsIn
+    partReadingBy partIn begins partEnd beginnings textOf sheetBy sheetReadingBy parted moreRules noMore rules judgedRules records warnings itemWarnings itemsWarnings
 opened = tt

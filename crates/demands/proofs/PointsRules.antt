@@ -249,13 +249,13 @@ commentApart-tells : Tells commentApart
 unfolding commentApart
 commentApart-tells = then-tells blank-tells (λ _. comment-tells)
 
-withComment-tells : (state : ℕ) → Tells (withComment state)
+withComment-tells : (state : ℕ) (odd : Bool) → Tells (withComment state odd)
 unfolding withComment
-withComment-tells state = then-tells (or-tells commentApart-tells (pure-tells noComment)) (λ c. pure-tells _)
+withComment-tells state odd = then-tells (or-tells commentApart-tells (pure-tells noComment)) (λ c. pure-tells _)
 
 modifier-tells : Tells modifier
 unfolding modifier
-modifier-tells = or-tells (then-tells (name-tells names.modifier) withComment-tells) (then-tells comment-tells (λ c. pure-tells _))
+modifier-tells = or-tells (then-tells (name-tells names.modifier) (λ state. withComment-tells state false)) (then-tells comment-tells (λ c. pure-tells _))
 
 -- ---- rules
 
@@ -362,7 +362,7 @@ text-never : (s : List ℕ) (p n : ℕ) → textOf Second s p n .0 .number ≡ 8
 unfolding textOf
 text-never s p n = rw (second-rules s p) (go (rules Second s p) (rules-tells .tells s p))
   where
-    go : (r : Read (List rule-specs.Rule × Unit {0})) → Other r → judgedText s p n r .0 .number ≡ 8 → ⊥
+    go : (r : Read (List rule-specs.Rule × Unit {0})) → Other r → judgedText p n r .0 .number ≡ 8 → ⊥
     go (got l j) h = either (λ (x : Answer × List (List ℤ)). x .0 .number ≡ 8 → ⊥) (ltb (n / 16) (length (records (l .0)))) (refusal 10 p) _ (λ e. omega arith) (λ e. omega arith)
     go none h = λ e. omega arith
     go (refused k q) h = h

@@ -41,7 +41,7 @@ text-empty : (m : Manner) (s : List ℕ) (p n : ℕ) → EmptyText (textOf m s p
 unfolding textOf
 text-empty m s p n = go (judgedRules m s p)
   where
-    go : (r : Read (List Rule × Unit {0})) → EmptyText (judgedText s p n r)
+    go : (r : Read (List Rule × Unit {0})) → EmptyText (judgedText p n r)
     go (got l j) = either EmptyText (ltb (n / 16) (length (records (l .0)))) (refusal noRoom p) _ (λ x. (refl, refl, refl)) (λ x. absurd (x refl))
     go none = λ x. (refl, refl, refl)
     go (refused k q) = λ x. (refl, refl, refl)

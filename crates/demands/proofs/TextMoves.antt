@@ -2,12 +2,11 @@
 use Prim.Native.Nat.{ℕ, zero, suc, _+_, _/_}
 use mathlib.Core.List.{List, [], _∷_, _++_, map, map-append}
 use mathlib.Core.Bool.{Bool, true, false}
-use mathlib.Core.Path.{_≡_, refl}
+use mathlib.Core.Path.{_≡_, refl, ap}
 use native.Mathlib.Omega.{arith}
 use lib.Dec.{ltb, eqb·suc-zero}
 use lib.IntN.{ℤ, pos}
-use lib.ListN.{length, drop, set, length-map}
-use lib.Seq.{drop-append-add}
+use lib.ListN.{length, set, length-map}
 use Rattle.names.specs.declared.Manner.{Manner}
 use Rattle.names.specs.Tests.{if_then_else_}
 use Rattle.names.specs.Read.{got, none, refused}
@@ -21,8 +20,7 @@ use Rattle.rules.proofs.Cut.{startMoves, headMoves, ruleMoves}
 use Rattle.items.specs.Kinds.{Placed}
 use Rattle.items.proofs.Cut.{placedMoves}
 use Rattle.sheet.specs.Heads.{headWords, itemRecord}
-use Rattle.sheet.specs.Texts.{judgedRules, records}
-use Rattle.sheet.specs.Warnings.{warningsOf}
+use Rattle.sheet.specs.Texts.{judgedRules, records, warnings}
 use Rattle.sheet.specs.Sheets.{answerOf, refusal, judgedText, textOf}
 use Rattle.demands.specs.Moved.{movedWord, hasComment, movedRecord, movedReading}
 use Rattle.sheet.proofs.Moves.{rulesMove}
@@ -75,6 +73,12 @@ unfolding records
 records-move d [] = refl
 records-move d (r ∷ l) = rw (records-move d l, map-append (movedRecord d) (map itemRecord (r .1)) (records l), items-move d (r .1), head-moves d (r .0))
 
+-- and their warnings
+warnings-move : (d : ℕ) (l : List Rule) → warnings (map (ruleMoves d) l) ≡ warnings l
+unfolding warnings
+warnings-move d [] = refl
+warnings-move d (r ∷ l) = ap (λ n. r .0 .warnings + n) (warnings-move d l)
+
 -- ---- answers
 
 -- the move law of a reading
@@ -82,14 +86,15 @@ pub text-move : (m : Manner) (u s : List ℕ) (p n : ℕ) → textOf m (u ++ s) 
 unfolding textOf
 text-move m u s p n = rw (judged-move m u s p) (go (judgedRules m s p) (judged-number m s p))
   where
-    stored-moves : (rs : List (List ℤ)) (full : Bool) → (if full then refusal 10 (length u + p) else (answerOf 0 0 (length rs) (warningsOf (drop p s)), map (movedRecord (length u)) rs))
-        ≡ movedReading (length u) (if full then refusal 10 p else (answerOf 0 0 (length rs) (warningsOf (drop p s)), rs))
-    stored-moves rs true = refl
-    stored-moves rs false = refl
+    stored-moves : (rs : List (List ℤ)) (w : ℕ) (full : Bool) → (if full then refusal 10 (length u + p) else (answerOf 0 0 (length rs) w, map (movedRecord (length u)) rs))
+        ≡ movedReading (length u) (if full then refusal 10 p else (answerOf 0 0 (length rs) w, rs))
+    stored-moves rs w true = refl
+    stored-moves rs w false = refl
 
-    go : (r : Rules) → Numbered m r → judgedText (u ++ s) (length u + p) n (moved rulesMove (length u) r) ≡ movedReading (length u) (judgedText s p n r)
+    go : (r : Rules) → Numbered m r → judgedText (length u + p) n (moved rulesMove (length u) r) ≡ movedReading (length u) (judgedText p n r)
     go (got l j) h =
-        rw (records-move (length u) (l .0), length-map (records (l .0)) (movedRecord (length u)), drop-append-add u s p) (stored-moves (records (l .0)) (ltb (n / 16) (length (records (l .0)))))
+        rw (records-move (length u) (l .0), length-map (records (l .0)) (movedRecord (length u)), warnings-move (length u) (l .0))
+        (stored-moves (records (l .0)) (warnings (l .0)) (ltb (n / 16) (length (records (l .0)))))
     go none h = refl
     go (refused zero q) h = absurd (omega (arith, number-positive m h))
     go (refused (suc k) q) h = rw (eqb·suc-zero k)

@@ -4,12 +4,12 @@ use mathlib.Core.List.{List, [], _∷_, _++_, append-nil, append-assoc}
 use mathlib.Core.Bool.{Bool, true, false}
 use mathlib.Core.Path.{_≡_, refl, sym, ap, _∙_}
 use native.Mathlib.Omega.{arith}
-use native.Mathlib.Nat.{add-zero}
+use native.Mathlib.Nat.{add-zero, zero-add}
 use native.Mathlib.Decide.{decLt}
 use lib.Dec.{ltb}
 use lib.IntN.{ℤ}
 use lib.ListN.{length, take, drop, length-append}
-use lib.Seq.{length-take-le, take-all, drop-append-le}
+use lib.Seq.{length-take-le, take-all}
 use borrow.Author.Tests.{le-ltb, lt-ltb}
 use Rattle.names.specs.declared.Manner.{Manner}
 use Rattle.names.specs.Tests.{if_then_else_}
@@ -18,9 +18,8 @@ use Rattle.rules.specs.Rules.{Rule}
 use Rattle.house.specs.Breaks.{firstOf, rulesBreak, judgedBy}
 use Rattle.house.specs.declared.Break.{Break}
 use Rattle.house.specs.declared.Break.the-variants.{Nowhere, At}
-use Rattle.sheet.specs.Texts.{rules, judgedRules, ruleRecords, records}
+use Rattle.sheet.specs.Texts.{rules, judgedRules, ruleRecords, records, warnings}
 use Rattle.sheet.specs.Sheets.{answerOf, refusal, judgedText, textOf, sheetBy}
-use Rattle.sheet.specs.Warnings.{warningsOf}
 use Rattle.sheet.specs.Parts.{partEnd, begins, places}
 use Rattle.sheet.specs.PartReadings.{partAnswerOf, withNext, partTo, partBy}
 use Rattle.sheet.proofs.Laws.{part-begin, begins-first}
@@ -28,7 +27,6 @@ use Rattle.demands.proofs.Cuts.{joined, rules-cut}
 use Rattle.demands.proofs.Judged.{Rules, settled, judged, judged-is, number-positive, Numbered, rules-number, judged-numbered, judged-append}
 use Rattle.sheet.proofs.PartLaws.{begins-fits, begins-next, end-split, end-paired}
 use Rattle.demands.proofs.Places.{placesFrom, places-all, places-next, places-none}
-use Rattle.demands.proofs.WarnedCut.{warnings-two}
 use Rattle.demands.specs.Together.{Reading, PartReading, Every, total, inOrder, Together}
 
 -- ---- records in a table
@@ -106,30 +104,36 @@ unfolding records
 records-append [] m = refl
 records-append (r ∷ l) m = rw (records-append l m) (sym (append-assoc (ruleRecords r) (records l) (records m)))
 
+-- and their warnings
+warnings-append : (l m : List Rule) → warnings (l ++ m) ≡ warnings l + warnings m
+unfolding warnings
+warnings-append [] m = sym (zero-add (warnings m))
+warnings-append (r ∷ l) m = omega (arith, warnings-append l m)
+
 -- what the rules of two texts come to
-module _ (m : Manner) (u s : List ℕ) (p q n : ℕ) (w : warningsOf (drop p s) ≡ warningsOf (drop p u) + warningsOf (drop q s)) where
+module _ (m : Manner) (p q n : ℕ) where
   -- both are read: the first break of both is that of the first, or else of the second
   two-read : (l k : List Rule × Unit {0}) (i j : ℕ) (a b : Break) → Numbered m (settled l i a) → Numbered m (settled k j b) →
-      Two n (judgedText u p n (settled l i a)) (judgedText s q n (settled k j b)) (judgedText s p n (settled (l .0 ++ k .0, tt) j (firstOf a b)))
-  two-read l k i j Nowhere Nowhere f g = rw (w, records-append (l .0) (k .0)) (two-kept n p q p (records (l .0)) (records (k .0)) (warningsOf (drop p u)) (warningsOf (drop q s)))
-  two-read l k i j Nowhere (At e o) f g = two-refused n (judgedText u p n (got l i)) (refusal e o) (refusal e o) (λ a b c. omega (arith, number-positive m g)) (number-positive m g)
-  two-read l k i j (At e o) b f g = two-refused n (refusal e o) (judgedText s q n (settled k j b)) (refusal e o) (λ a b c. omega (arith, number-positive m f)) (number-positive m f)
+      Two n (judgedText p n (settled l i a)) (judgedText q n (settled k j b)) (judgedText p n (settled (l .0 ++ k .0, tt) j (firstOf a b)))
+  two-read l k i j Nowhere Nowhere f g = rw (warnings-append (l .0) (k .0), records-append (l .0) (k .0)) (two-kept n p q p (records (l .0)) (records (k .0)) (warnings (l .0)) (warnings (k .0)))
+  two-read l k i j Nowhere (At e o) f g = two-refused n (judgedText p n (got l i)) (refusal e o) (refusal e o) (λ a b c. omega (arith, number-positive m g)) (number-positive m g)
+  two-read l k i j (At e o) b f g = two-refused n (refusal e o) (judgedText q n (settled k j b)) (refusal e o) (λ a b c. omega (arith, number-positive m f)) (number-positive m f)
 
-  two-judged : (x y : Rules) → Numbered m x → Numbered m y → Two n (judgedText u p n (judged m x)) (judgedText s q n (judged m y)) (judgedText s p n (judged m (joined x y)))
+  two-judged : (x y : Rules) → Numbered m x → Numbered m y → Two n (judgedText p n (judged m x)) (judgedText q n (judged m y)) (judgedText p n (judged m (joined x y)))
   two-judged (got l i) (got k j) f g =
       rw (judged-append m (l .0) (k .0))
       (two-read l k i j (judgedBy m (rulesBreak (l .0))) (judgedBy m (rulesBreak (k .0))) (judged-numbered m (got l i) tt) (judged-numbered m (got k j) tt))
-  two-judged (got l i) none f g = two-refused n (judgedText u p n (judged m (got l i))) (refusal 3 q) (refusal 3 p) (λ a b c. omega arith) (omega arith)
-  two-judged (got l i) (refused k o) f g = two-refused n (judgedText u p n (judged m (got l i))) (refusal k o) (refusal k o) (λ a b c. omega (arith, number-positive m g)) (number-positive m g)
-  two-judged none y f g = two-refused n (refusal 3 p) (judgedText s q n (judged m y)) (refusal 3 p) (λ a b c. omega arith) (omega arith)
-  two-judged (refused k o) y f g = two-refused n (refusal k o) (judgedText s q n (judged m y)) (refusal k o) (λ a b c. omega (arith, number-positive m f)) (number-positive m f)
+  two-judged (got l i) none f g = two-refused n (judgedText p n (judged m (got l i))) (refusal 3 q) (refusal 3 p) (λ a b c. omega arith) (omega arith)
+  two-judged (got l i) (refused k o) f g = two-refused n (judgedText p n (judged m (got l i))) (refusal k o) (refusal k o) (λ a b c. omega (arith, number-positive m g)) (number-positive m g)
+  two-judged none y f g = two-refused n (refusal 3 p) (judgedText q n (judged m y)) (refusal 3 p) (λ a b c. omega arith) (omega arith)
+  two-judged (refused k o) y f g = two-refused n (refusal k o) (judgedText q n (judged m y)) (refusal k o) (λ a b c. omega (arith, number-positive m f)) (number-positive m f)
 
 -- the text from a part's beginning on: that part, and the text after the `;` that ends it
 two-texts : (m : Manner) (s : List ℕ) (p n : ℕ) → partEnd s p < length s → Two n (textOf m (take (partEnd s p) s) p n) (textOf m s (suc (partEnd s p)) n) (textOf m s p n)
 unfolding textOf
 two-texts m s p n h =
     rw (judged-is m u p, judged-is m s (suc e), judged-is m s p, cut)
-    (two-judged m u s p (suc e) n warnings (rules m u p) (rules m s (suc e)) (rules-number m u p) (rules-number m s (suc e)))
+    (two-judged m p (suc e) n (rules m u p) (rules m s (suc e)) (rules-number m u p) (rules-number m s (suc e)))
   where
     e : ℕ
     e = partEnd s p
@@ -156,16 +160,13 @@ two-texts m s p n h =
         ∙ ap (λ z. joined (rules m u p) (rules m z (suc (length u)))) (sym split)
         ∙ ap (λ k. joined (rules m u p) (rules m s (suc k))) size
 
-    warnings : warningsOf (drop p s) ≡ warningsOf (drop p u) + warningsOf (drop (suc e) s)
-    warnings = ap (λ z. warningsOf (drop p z)) split ∙ ap warningsOf (drop-append-le p u (59 ∷ t) before) ∙ warnings-two (drop p u) t (end-paired s p h)
-
 -- an accepted text's records are held
 text-fits : (m : Manner) (s : List ℕ) (p n : ℕ) → textOf m s p n .0 .number ≡ 0 → textOf m s p n .0 .records ≤ n / 16
 unfolding textOf
 text-fits m s p n = go (judgedRules m s p)
   where
-    go : (x : Read (List Rule × Unit {0})) → judgedText s p n x .0 .number ≡ 0 → judgedText s p n x .0 .records ≤ n / 16
-    go (got l j) e = let h = held-fits n p (records (l .0)) (warningsOf (drop p s)) e in rw (le-ltb (n / 16) (length (records (l .0))) h) h
+    go : (x : Read (List Rule × Unit {0})) → judgedText p n x .0 .number ≡ 0 → judgedText p n x .0 .records ≤ n / 16
+    go (got l j) e = let h = held-fits n p (records (l .0)) (warnings (l .0)) e in rw (le-ltb (n / 16) (length (records (l .0))) h) h
     go none e = omega arith
     go (refused k q) e = omega arith
 

@@ -186,12 +186,12 @@ module _ (s : List ℕ) where
   no-modifier j (bracket h) = rw (no-blank j h)
   no-modifier j (signed k e h) = rw (e, name-none s k names.modifier (no-word s k (omega (arith, h .1))), no-byte 34 k (λ q. omega arith) (λ q. omega (arith, h .0)))
 
-  dead-end : (k : Kind) (j : ℕ) → Dead s j → end (After k) s j ≡ got (tailOf 0 noComment) j
+  dead-end : (k : Kind) (j : ℕ) → Dead s j → end (After k) s j ≡ got (tailOf 0 noComment false) j
   unfolding end plainEnd
   dead-end k j d = rw (no-modifier j d)
 
   -- the rule ends there
-  dead-pieces : (n : ℕ) (x : Stage) (j : ℕ) → WeekStage x → Dead s j → chainIn (suc n) (more First) end x s j ≡ got ([], tailOf 0 noComment) j
+  dead-pieces : (n : ℕ) (x : Stage) (j : ℕ) → WeekStage x → Dead s j → chainIn (suc n) (more First) end x s j ≡ got ([], tailOf 0 noComment false) j
   unfolding chainIn
   dead-pieces n Beginning j w d = absurd w
   dead-pieces n Always j w d = absurd w

@@ -6,6 +6,7 @@ use lib.IntN.{ℤ}
 use lib.ListN.{length, drop}
 use Rattle.names.specs.Tests.{if_then_else_}
 use Rattle.records.specs.Tables.{Tables, Layout, kept, allKept}
+use Rattle.records.specs.Warnings.{mostWarnings}
 use Rattle.sheet.specs.declared.Answer.{Answer}
 use Rattle.feed.specs.Feeds.{Reading, FeedReading, answersAsWords, answersAsBytes}
 use Rattle.feed.specs.declared.FeedAnswer.{FeedAnswer}
@@ -31,7 +32,7 @@ freeFrom cells width k = if ltb k (cells / width) then k * width else cells
 pub record Small (a : Answer) : Type 0 where
   pub place : a .place ≤ 4096
   pub records : a .records ≤ 4096
-  pub warnings : a .warnings ≤ 4096
+  pub warnings : a .warnings ≤ mostWarnings
 
 -- these words in their slots of one table, one after the other from slot k on, where it has them
 unfoldable pub keptAll : {A : Type 0} → Layout A → List A → ℕ → List (List ℤ) → List A

@@ -1,22 +1,21 @@
--- Each number of an answer is small: a place is one of the sheet's, and there are no more records nor warnings than bytes.
-use Prim.Native.Nat.{ℕ, zero, suc, _+_, _/_, _≤_, _<_}
+-- Each number of an answer is small: a place is one of the sheet's, there are no more records than bytes, and at most 6 warnings for each record.
+use Prim.Native.Nat.{ℕ, zero, suc, _+_, _*_, _/_, _≤_, _<_}
 use mathlib.Core.List.{List, [], _∷_}
 use mathlib.Core.Bool.{Bool, true, false, not}
 use mathlib.Core.Path.{_≡_, refl, subst}
 use native.Mathlib.Omega.{arith}
 use native.Mathlib.Decide.{decLt}
-use lib.Dec.{ltb, eqb}
-use lib.IntN.{ℤ}
-use lib.ListN.{length, take, drop, length-drop}
+use lib.Dec.{ltb}
+use lib.ListN.{length, take}
 use lib.Seq.{length-take-le}
 use borrow.Author.Tests.{lt-ltb, le-ltb}
 use Rattle.names.specs.declared.Manner.{Manner}
 use Rattle.names.specs.Tests.{if_then_else_}
-use Rattle.names.specs.Quotes.{flips}
 use Rattle.names.specs.Read.{Read, got, none, refused, follow, nothing, pure, map}
 use Rattle.names.specs.Chain.{before, last, chainIn, chain}
 use Rattle.names.specs.Texts.{blanks}
 use Rattle.names.proofs.Local.{Ends, Near, near-up, past-one}
+use Rattle.records.specs.Warnings.{mostWarnings}
 use Rattle.items.specs.Kinds.{Placed}
 use Rattle.items.specs.Musts.{must}
 use Rattle.rules.specs.Rules.{Rule, rule}
@@ -31,8 +30,7 @@ use Rattle.house.specs.declared.Break.the-variants.{Nowhere, At}
 use Rattle.house.proofs.Places.{Broken, OfItem, OfRule, more-broken, none-broken, judged-broken}
 use Rattle.rules.specs.declared.Next.{Next}
 use Rattle.rules.specs.declared.Next.the-variants.{Another, Finished}
-use Rattle.sheet.specs.Texts.{afterRule, parted, moreRules, noMore, rules, unbroken, judgedRules, records}
-use Rattle.sheet.specs.Warnings.{isLetter, warned, warningsIn, warningsOf}
+use Rattle.sheet.specs.Texts.{afterRule, parted, moreRules, noMore, rules, unbroken, judgedRules, records, warnings}
 use Rattle.sheet.specs.Sheets.{answerOf, refusal, judgedText, textOf, sheetBy, sheetReadingBytesBy, wordsIn}
 use Rattle.sheet.specs.Parts.{begins, partEnd}
 use Rattle.sheet.specs.PartReadings.{partAnswerOf, withNext, partTo, partRefusal, partBy, partReadingBytesBy}
@@ -43,20 +41,8 @@ use Rattle.sheet.specs.declared.Answer.{Answer}
 use Rattle.sheet.specs.declared.PartAnswer.{PartAnswer}
 use Rattle.sheet.proofs.Moves.{moreRules-ended, takes}
 use Rattle.names.proofs.Upto.{Upto, upto-then}
-use Rattle.sheet.proofs.Turns.{more-takes, records-more, records-none}
+use Rattle.sheet.proofs.Turns.{Taking, more-takes, records-more, records-none}
 use Rattle.sheet.proofs.PartLaws.{begins-fits, end-fits}
-
--- ---- warnings
-
--- no more than bytes
-warnings-few : (inside letter : Bool) (s : List ℕ) → warningsIn inside letter s ≤ length s
-unfolding warningsIn
-warnings-few inside letter [] = omega arith
-warnings-few inside letter (b ∷ s) = go (warned inside letter (b ∷ s) b) (warnings-few (flips b inside) (isLetter b) s)
-  where
-    go : (c : Bool) {n : ℕ} → n ≤ length s → (if c then 1 else 0) + n ≤ suc (length s)
-    go true h = omega arith
-    go false h = omega arith
 
 -- ---- places and records
 
@@ -85,24 +71,27 @@ more-placed m separator s i =
     P : Rule × Next → ℕ → Type 0
     P x k = OfRule (UpTo (length s)) (x .0)
 
--- from the place i on there are no more records than bytes, and a break or a refusal is at a place of the text
+-- from the place i on there are no more records than bytes, at most 6 warnings for each, and a break or a refusal is at a place of the text
 abbrev Bounded : ℕ → ℕ → Read (List Rule × Unit {0}) → Type 0
-Bounded n i (got l j) = (i + length (records (l .0)) ≤ n) × Broken (UpTo n) (rulesBreak (l .0))
+Bounded n i (got l j) = (i + length (records (l .0)) ≤ n) × Broken (UpTo n) (rulesBreak (l .0)) × (warnings (l .0) ≤ length (records (l .0)) * 6)
 Bounded n i none = Unit {0}
 Bounded n i (refused k p) = p ≤ n
 
 module _ (m : Manner) (s : List ℕ) where
   -- a rule more
-  bounded-more : (r : Rule) (i j : ℕ) → i + suc (length (r .1)) ≤ j → OfRule (UpTo (length s)) r → (x : Read (List Rule × Unit {0})) → Bounded (length s) j x →
-      Bounded (length s) i (follow s j x (λ l. pure (before r l)) nothing)
-  bounded-more r i j h w (got l k) b = (omega (arith, records-more r (l .0), b .0), more-broken (UpTo (length s)) r (l .0) w (b .1))
-  bounded-more r i j h w none b = tt
-  bounded-more r i j h w (refused e p) b = b
+  bounded-more : (c : Rule × Next) (i j : ℕ) → Taking i c j → OfRule (UpTo (length s)) (c .0) → (x : Read (List Rule × Unit {0})) → Bounded (length s) j x →
+      Bounded (length s) i (follow s j x (λ l. pure (before (c .0) l)) nothing)
+  unfolding warnings
+  bounded-more c i j h w (got l k) b =
+      let more = records-more (c .0) (l .0) in
+      (omega (arith, more, h .0, b .0), more-broken (UpTo (length s)) (c .0) (l .0) w (b .1), omega (arith, more, h .1, b .2))
+  bounded-more c i j h w none b = tt
+  bounded-more c i j h w (refused e p) b = b
 
   -- no rule more
   finished : (n i : ℕ) → i ≤ length s → Bounded (length s) i (follow s i (moreRules m Finished s i) (λ c. map (before (c .0)) (chainIn n (moreRules m) noMore (c .1))) (map last (noMore Finished)))
-  unfolding moreRules noMore
-  finished n i h = (omega (arith, records-none), none-broken (UpTo (length s)))
+  unfolding moreRules noMore warnings
+  finished n i h = (omega (arith, records-none), none-broken (UpTo (length s)), omega arith)
 
   bounded : (n : ℕ) (x : Next) (i : ℕ) → i ≤ length s → Bounded (length s) i (chainIn n (moreRules m) noMore x s i)
   unfolding chainIn noMore
@@ -110,9 +99,9 @@ module _ (m : Manner) (s : List ℕ) where
   bounded (suc n) (Another q) i h = go (λ y j w. bounded n y j w) (moreRules m (Another q) s i) (takes m (Another q) s i) (more-takes m q s i) (more-placed m q s i) (more-near m (Another q) s i h)
     where
       go : ((y : Next) (j : ℕ) → j ≤ length s → Bounded (length s) j (chainIn n (moreRules m) noMore y s j)) →
-          (r : Read (Rule × Next)) → Ends (λ j. (i < j) × (j ≤ length s)) r → Upto (λ x k. i + suc (length (x .0 .1)) ≤ k) r → Upto (λ x k. OfRule (UpTo (length s)) (x .0)) r → Near (length s) r →
+          (r : Read (Rule × Next)) → Ends (λ j. (i < j) × (j ≤ length s)) r → Upto (Taking i) r → Upto (λ x k. OfRule (UpTo (length s)) (x .0)) r → Near (length s) r →
           Bounded (length s) i (follow s i r (λ c. map (before (c .0)) (chainIn n (moreRules m) noMore (c .1))) (map last (noMore (Another q))))
-      go later (got c j) e f o w = bounded-more (c .0) i j f o (chainIn n (moreRules m) noMore (c .1) s j) (later (c .1) j (e .1))
+      go later (got c j) e f o w = bounded-more c i j f o (chainIn n (moreRules m) noMore (c .1) s j) (later (c .1) j (e .1))
       go later none e f o w = tt
       go later (refused k p) e f o w = w
   bounded (suc n) Finished i h = finished n i h
@@ -146,7 +135,7 @@ module _ (m : Manner) (s : List ℕ) where
 pub record Small (a : Answer) : Type 0 where
   pub place : a .place ≤ 4096
   pub records : a .records ≤ 4096
-  pub warnings : a .warnings ≤ 4096
+  pub warnings : a .warnings ≤ mostWarnings
 
 -- a refusal's
 refusal-small : (number place : ℕ) → place ≤ 4096 → Small (refusal number place .0)
@@ -157,12 +146,13 @@ pub text-small : (m : Manner) (s : List ℕ) (p n : ℕ) → length s ≤ 4096 �
 unfolding textOf
 text-small m s p n small h = go (judgedRules m s p) (judged-bounded m s p h)
   where
-    full : (l : List (List ℤ)) → length l ≤ 4096 → (b : Bool) → Small ((if b then refusal 10 p else (answerOf 0 0 (length l) (warningsOf (drop p s)), l)) .0)
-    full l k true = refusal-small 10 p (omega arith)
-    full l k false = record { place = omega arith; records = k; warnings = omega (arith, warnings-few false false (drop p s), length-drop p s) }
+    full : (l : List Rule) → length (records l) ≤ 4096 → warnings l ≤ length (records l) * 6 → (b : Bool) →
+        Small ((if b then refusal 10 p else (answerOf 0 0 (length (records l)) (warnings l), records l)) .0)
+    full l k w true = refusal-small 10 p (omega arith)
+    full l k w false = record { place = omega arith; records = k; warnings = omega arith }
 
-    go : (x : Read (List Rule × Unit {0})) → Bounded (length s) p x → Small (judgedText s p n x .0)
-    go (got l j) b = full (records (l .0)) (omega (arith, b .0)) (ltb (n / 16) (length (records (l .0))))
+    go : (x : Read (List Rule × Unit {0})) → Bounded (length s) p x → Small (judgedText p n x .0)
+    go (got l j) b = full (l .0) (omega (arith, b .0)) (b .2) (ltb (n / 16) (length (records (l .0))))
     go none b = refusal-small 3 p (omega arith)
     go (refused k q) b = refusal-small k q (omega arith)
 

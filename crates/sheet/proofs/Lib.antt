@@ -1,6 +1,4 @@
 pub mod Laws
-pub mod Warned
-pub mod Short
 pub mod Moves
 pub mod Sure
 pub mod Takes

@@ -8,7 +8,7 @@ use native.Mathlib.Omega.{arith}
 use native.Mathlib.Nat.{zero-add, div-mul-le-self}
 use lib.Dec.{ltb}
 use lib.IntN.{ℤ, pos}
-use lib.ListN.{length, take, drop, length-set}
+use lib.ListN.{length, take, length-set}
 use borrow.Author.Tests.{lt-ltb, le-ltb, ltb-false}
 use Rattle.names.specs.declared.Manner.{Manner}
 use Rattle.names.specs.Tests.{if_then_else_}
@@ -20,9 +20,8 @@ use Rattle.records.specs.Words.{wordsOf}
 use Rattle.items.specs.Kinds.{Placed}
 use Rattle.rules.specs.Rules.{Rule}
 use Rattle.sheet.specs.Heads.{itemRecord}
-use Rattle.sheet.specs.Texts.{judgedRules, ruleRecords, records}
-use Rattle.sheet.specs.Warnings.{warningsOf}
-use Rattle.sheet.specs.Into.{rulesInto, into}
+use Rattle.sheet.specs.Texts.{judgedRules, ruleRecords, records, warnings}
+use Rattle.sheet.specs.Into.{Totals, rulesInto, into}
 use Rattle.sheet.specs.Sheets.{answerOf, refusal, judgedText, textOf, writtenAs, sheetBy, wordsIn}
 use Rattle.sheet.specs.Parts.{begins, partEnd}
 use Rattle.sheet.specs.PartReadings.{withNext, partRefusal, partBy}
@@ -62,12 +61,11 @@ unfolding textOf
 text-held m s p n = go (judgedRules m s p)
   where
     all : (l : List Rule) (full : Bool) → ltb (n / 16) (length (records l)) ≡ full →
-        Held n ((if full then refusal 10 p else (answerOf 0 0 (length (records l)) (warningsOf (drop p s)), records l)) .0 .records) ((if full then refusal 10 p else
-        (answerOf 0 0 (length (records l)) (warningsOf (drop p s)), records l)) .1)
+        let r = if full then refusal 10 p else (answerOf 0 0 (length (records l)) (warnings l), records l) in Held n (r .0 .records) (r .1)
     all l true e = held-none n
     all l false e = record { many = refl; long = records-sixteen l; room = ltb-false (n / 16) (length (records l)) e }
 
-    go : (x : Read (List Rule × Unit {0})) → Held n (judgedText s p n x .0 .records) (judgedText s p n x .1)
+    go : (x : Read (List Rule × Unit {0})) → Held n (judgedText p n x .0 .records) (judgedText p n x .1)
     go (got l j) = all (l .0) (ltb (n / 16) (length (records (l .0)))) refl
     go none = held-none n
     go (refused k q) = held-none n
@@ -93,26 +91,38 @@ sheet-held m s n = either (λ (r : Answer × List (List ℤ)). Held n (r .0 .rec
 
 -- ---- rules that were counted and kept
 
--- the rules of a text are read: they have n records, and tables t with these are t′
-pub record Kept (m : Manner) (t t′ : Tables) (s : List ℕ) (p n : ℕ) : Type 0 where
+-- the rules of a text are read: they have n records and w warnings, and tables t with the records are t′
+pub record Kept (m : Manner) (t t′ : Tables) (s : List ℕ) (p n w : ℕ) : Type 0 where
   pub list : List Rule
   pub end : ℕ
   pub is : judgedRules m s p ≡ got (list, tt) end
   pub many : n ≡ length (records list)
+  pub warned : w ≡ warnings list
   pub all : t′ ≡ allKept t 0 (records list)
 
 module _ (m : Manner) (s : List ℕ) (p : ℕ) where
   abbrev Rules : Type 0
   Rules = Read (List Rule × Unit {0})
 
+  -- what is counted of the rules
+  abbrev totals : Tables → List Rule × Unit {0} → Totals
+  totals t l = (length (records (l .0)), warnings (l .0), allKept t 0 (records (l .0)))
+
   -- counted, and not refused
-  pub kept-is : (t t′ : Tables) {n j : ℕ} → rulesInto m t s p ≡ got (n, t′) j → Kept m t t′ s p n
-  kept-is t t′ {n} {j} = go (judgedRules m s p) refl
+  pub kept-is : (t t′ : Tables) {n w j : ℕ} → rulesInto m t s p ≡ got (n, w, t′) j → Kept m t t′ s p n w
+  kept-is t t′ {n} {w} {j} = go (judgedRules m s p) refl
     where
-      go : (x : Rules) → judgedRules m s p ≡ x → follow {B = ℕ × Tables} s p x (λ l. pure (length (records (l .0)), allKept t 0 (records (l .0)))) nothing ≡ got (n, t′) j → Kept m t t′ s p n
+      go : (x : Rules) → judgedRules m s p ≡ x → follow s p x (λ l. pure (totals t l)) nothing ≡ got (n, w, t′) j → Kept m t t′ s p n w
       go (got l k) e f =
-          let v : _≡_ {A = ℕ × Tables} (length (records (l .0)), allKept t 0 (records (l .0))) (n, t′) = cc in
-          record { list = l .0; end = k; is = e; many = sym (ap (λ (y : ℕ × Tables). y .0) v); all = sym (ap (λ (y : ℕ × Tables). y .1) v) }
+          let v : _≡_ {A = Totals} (totals t l) (n, w, t′) = cc in
+          record {
+            list = l .0;
+            end = k;
+            is = e;
+            many = sym (ap (λ (y : Totals). y .0) v);
+            warned = sym (ap (λ (y : Totals). y .1) v);
+            all = sym (ap (λ (y : Totals). y .2) v);
+          }
       go none e f = let z : _≡_ {A = ℕ} 0 1 = cc in absurd (omega arith)
       go (refused k q) e f = let z : _≡_ {A = ℕ} 0 1 = cc in absurd (omega arith)
 
@@ -121,19 +131,19 @@ module _ (m : Manner) (s : List ℕ) (p : ℕ) where
   unfolding textOf allKept
   text-refused t u size {k} {q} = go (judgedRules m s p)
     where
-      go : (x : Rules) → follow {B = ℕ × Tables} s p x (λ l. pure (length (records (l .0)), allKept t 0 (records (l .0)))) nothing ≡ refused k q → (refusal k q .0, u) ≡ into u (judgedText s p size x)
+      go : (x : Rules) → follow s p x (λ l. pure (totals t l)) nothing ≡ refused k q → (refusal k q .0, u) ≡ into u (judgedText p size x)
       go (got l j) e = cc
       go none e = cc
       go (refused a b) e = let f : a ≡ k = cc in let g : b ≡ q = cc in rw (f, g)
 
-  module _ (t t′ u : Tables) {n : ℕ} (k : Kept m t t′ s p n) where
+  module _ (t t′ u : Tables) {n w : ℕ} (k : Kept m t t′ s p n w) where
     -- read again into other tables
     pub again : (r : Counted) {u′ : Tables} → rulesInto m u s p ≡ seenRulesInto r u′ → u′ ≡ allKept u 0 (records (k .list))
-    again (Got o c) {u′} e =
-        let v : _≡_ {A = Read (ℕ × Tables)} (got (length (records (k .list)), allKept u 0 (records (k .list))) (k .end)) (got (o, u′) (c .at)) = rw (k .is) at e in
-        let w : _≡_ {A = ℕ × Tables} (length (records (k .list)), allKept u 0 (records (k .list))) (o, u′) = cc in
-        sym (ap (λ (y : ℕ × Tables). y .1) w)
-    again (Refused o q) e = let v : _≡_ {A = Read (ℕ × Tables)} (got (length (records (k .list)), allKept u 0 (records (k .list))) (k .end)) (refused o q) = rw (k .is) at e in cc
+    again (Got o v c) {u′} e =
+        let f : _≡_ {A = Read Totals} (got (totals u (k .list, tt)) (k .end)) (got (o, v, u′) (c .at)) = rw (k .is) at e in
+        let g : _≡_ {A = Totals} (totals u (k .list, tt)) (o, v, u′) = cc in
+        sym (ap (λ (y : Totals). y .2) g)
+    again (Refused o q) e = let f : _≡_ {A = Read Totals} (got (totals u (k .list, tt)) (k .end)) (refused o q) = rw (k .is) at e in cc
 
     -- taken out of the table of words, where it had room for all
     pub taken : n * 16 ≤ length (t .0) → recordsIn n (t′ .0) ≡ records (k .list)
@@ -149,9 +159,9 @@ module _ (m : Manner) (s : List ℕ) (p : ℕ) where
       text-full h = let g : size / 16 < length (records (k .list)) = omega (arith, h, k .many) in rw (k .is, lt-ltb _ _ g)
 
       -- the text is accepted
-      pub text-accepted : n ≤ size / 16 → (answerOf 0 0 n (warningsOf (drop p s)), allKept u 0 (records (k .list))) ≡ into u (textOf m s p size)
+      pub text-accepted : n ≤ size / 16 → (answerOf 0 0 n w, allKept u 0 (records (k .list))) ≡ into u (textOf m s p size)
       unfolding textOf
-      text-accepted h = let g : length (records (k .list)) ≤ size / 16 = omega (arith, h, k .many) in rw (k .is, le-ltb _ _ g, k .many)
+      text-accepted h = let g : length (records (k .list)) ≤ size / 16 = omega (arith, h, k .many) in rw (k .is, le-ltb _ _ g, k .many, k .warned)
 
 -- ---- sheets and parts
 

@@ -1,4 +1,5 @@
 -- A rule takes as many bytes of its text as it has records at least: each item, with the comma or the blank before it, takes two, and a rule without items takes one.
+-- It has at most 6 warnings for each record.
 use Prim.Native.Nat.{ℕ, zero, suc, _+_, _*_, _≤_}
 use mathlib.Core.Bool.{Bool, true, false, _&&_, and-eq-true-iff}
 use mathlib.Core.List.{List, [], _∷_}
@@ -41,6 +42,7 @@ use Rattle.rules.specs.declared.Stage.{Stage}
 use Rattle.rules.specs.declared.Stage.the-variants.{Beginning, Always, Colon, After}
 use Rattle.rules.specs.declared.Tail.{Tail}
 use Rattle.rules.proofs.Cut.{itemFrom-local, afterColon-local, end-local, opening-local, rule-local}
+use Rattle.rules.proofs.Warned.{rule-warnings-few}
 
 -- ---- an item takes two bytes
 
@@ -151,9 +153,9 @@ module _ (m : Manner) (s : List ℕ) where
       go later none e = upto-then (Pieces i) s i _ (end x s i) (λ b j f. omega (arith, past (end-local x) f .moves))
       go later (refused k p) e = tt
 
-  -- a rule's head says how many items it has
+  -- those of a rule, and its warnings
   abbrev Items : ℕ → Rule → ℕ → Type 0
-  Items i r j = (r .0 .items ≡ length (r .1)) × (i + length (r .1) * 2 ≤ j)
+  Items i r j = (r .0 .warnings ≤ suc (length (r .1)) * 6) × (i + length (r .1) * 2 ≤ j)
 
   rule-items : (separator i : ℕ) → Upto (Items i) (rule m separator s i)
   unfolding rule afterOpening chain
@@ -161,13 +163,14 @@ module _ (m : Manner) (s : List ℕ) where
       upto-then (Items i) s i (afterOpening m i separator) (opening s i) (λ o j e.
       let all = chainIn (suc (length s)) (more m) end (o .stage) s j in
       upto-map (Items i) s j (ruleOf i separator (o .comment)) all
-      (upto-less (Pieces j) (λ r k. Items i (ruleOf i separator (o .comment) r) k) (λ r k h. (refl, omega (arith, h, past opening-local e .moves))) all (pieces-in (suc (length s)) (o .stage) j)))
+      (upto-less (Pieces j) (λ r k. Items i (ruleOf i separator (o .comment) r) k)
+      (λ r k h. (rule-warnings-few i separator (o .comment) r, omega (arith, h, past opening-local e .moves))) all (pieces-in (suc (length s)) (o .stage) j)))
 
   -- these and the head take a byte each at least
-  pub rule-takes : (separator i : ℕ) → Upto (λ r j. (r .0 .items ≡ length (r .1)) × (i + suc (length (r .1)) ≤ j)) (rule m separator s i)
+  pub rule-takes : (separator i : ℕ) → Upto (λ r j. (r .0 .warnings ≤ suc (length (r .1)) * 6) × (i + suc (length (r .1)) ≤ j)) (rule m separator s i)
   rule-takes separator i = go (rule m separator s i) refl (rule-items separator i)
     where
-      go : (r : Read Rule) → rule m separator s i ≡ r → Upto (Items i) r → Upto (λ r j. (r .0 .items ≡ length (r .1)) × (i + suc (length (r .1)) ≤ j)) r
+      go : (r : Read Rule) → rule m separator s i ≡ r → Upto (Items i) r → Upto (λ r j. (r .0 .warnings ≤ suc (length (r .1)) * 6) × (i + suc (length (r .1)) ≤ j)) r
       go (got r j) e h = (h .0, omega (arith, h .1, past-one (rule-local m separator) e))
       go none e h = tt
       go (refused k p) e h = tt

@@ -1,5 +1,5 @@
 -- A rule of a text and what parts it from the next, a turn at a time: what the loop over rules goes by.
-use Prim.Native.Nat.{ℕ, suc, _+_, _≤_, _<_}
+use Prim.Native.Nat.{ℕ, suc, _+_, _*_, _≤_, _<_}
 use mathlib.Core.List.{List, [], _∷_}
 use mathlib.Core.Path.{_≡_, refl, sym, ap, _∙_}
 use native.Mathlib.Omega.{arith}
@@ -29,8 +29,8 @@ use Rattle.names.specs.declared.Cursor.{Cursor}
 use Rattle.sheet.specs.declared.RuleRead.the-variants as read
 use Rattle.sheet.specs.declared.Parted.{Parted}
 use Rattle.sheet.specs.declared.Parted.the-variants as parting
-use Rattle.sheet.specs.Texts.{afterRule, parted, moreRules, noMore, rules, unbroken, judgedRules, ruleRecords, records}
-use Rattle.sheet.specs.Into.{ruleInto, rulesInto}
+use Rattle.sheet.specs.Texts.{afterRule, parted, moreRules, noMore, rules, unbroken, judgedRules, ruleRecords, records, warnings}
+use Rattle.sheet.specs.Into.{Known, knownOf, ruleInto, Totals, rulesInto}
 use Rattle.sheet.specs.Seen.{seenRule, seenRuleInto, seenParted}
 use Rattle.sheet.proofs.Moves.{takes, must-next, rules-are}
 use Rattle.names.proofs.Upto.{Upto, upto-then}
@@ -51,26 +51,22 @@ records-none = refl
 
 -- ---- a rule of a text
 
--- a rule of a text takes a byte for each of its records at least
-pub more-takes : (m : Manner) (separator : ℕ) (s : List ℕ) (i : ℕ) → Upto (λ x k. i + suc (length (x .0 .1)) ≤ k) (moreRules m (Another separator) s i)
+-- a rule of a text takes a byte for each of its records at least, and has at most 6 warnings for each
+abbrev pub Taking : ℕ → Rule × Next → ℕ → Type 0
+Taking i x k = (i + suc (length (x .0 .1)) ≤ k) × (x .0 .0 .warnings ≤ suc (length (x .0 .1)) * 6)
+
+pub more-takes : (m : Manner) (separator : ℕ) (s : List ℕ) (i : ℕ) → Upto (Taking i) (moreRules m (Another separator) s i)
 unfolding moreRules parted
 more-takes m separator s i =
-    upto-then P s i _ (blanks s i) (λ _ j e.
-    upto-then P s j afterRule (rule m separator s j) (λ r k f.
-    let h : Upto (λ r k. (r .0 .items ≡ length (r .1)) × (j + suc (length (r .1)) ≤ k)) (got r k) = rw f at (rule-takes m s separator j) in
-    upto-then P s k _ (blanks s k) (λ _ l g. upto-then P s l _ (must next s l) (λ n q o.
-    omega (arith, h .1, past blanks-local e .moves, past blanks-local g .moves, past must-next o .moves)))))
-  where
-    P : Rule × Next → ℕ → Type 0
-    P x k = i + suc (length (x .0 .1)) ≤ k
+    upto-then (Taking i) s i _ (blanks s i) (λ _ j e.
+    upto-then (Taking i) s j afterRule (rule m separator s j) (λ r k f.
+    let h : Upto (λ r k. (r .0 .warnings ≤ suc (length (r .1)) * 6) × (j + suc (length (r .1)) ≤ k)) (got r k) = rw f at (rule-takes m s separator j) in
+    upto-then (Taking i) s k _ (blanks s k) (λ _ l g. upto-then (Taking i) s l _ (must next s l) (λ n q o.
+    (omega (arith, h .1, past blanks-local e .moves, past blanks-local g .moves, past must-next o .moves), h .0)))))
 
--- a rule's number of items and its first break
-abbrev pub Known : Type 0
-Known = ℕ × Break
-
--- these, and tables with its records from a slot on
+-- what is known of a rule, and tables with its records from a slot on
 abbrev pub ruleKept : Manner → Tables → ℕ → Rule → Known × Tables
-ruleKept m t slot r = ((length (r .1), judgedBy m (ruleBreak r)), allKept t slot (ruleRecords r))
+ruleKept m t slot r = (knownOf m r, allKept t slot (ruleRecords r))
 
 -- the same of a rule and what follows it
 abbrev pub both : {A B : Type 0} → (A → B) → A × Next → B × Next
@@ -106,17 +102,17 @@ module _ (m : Manner) (t t′ : Tables) (slot separator : ℕ) (s : List ℕ) (i
       go : (r : Read Rule) (y : RuleRead) → follow s j r (λ x. pure (ruleKept m t slot x)) nothing ≡ seenRuleInto y t′ →
           follow s i (follow s j r afterRule nothing) (λ x. pure (both (ruleKept m t slot) x)) nothing
           ≡ follow s i (follow s 0 (seenRule y) afterRule nothing) (λ x. pure (both (λ k. (k, t′)) x)) nothing
-      go (got r k) (read.Got items broken c) f =
-          let known : Known = (items, broken) in
+      go (got r k) (read.Got items warned broken c) f =
+          let known : Known = (items, warned, broken) in
           let b : ruleKept m t slot r ≡ (known, t′) = cc in
           let at : k ≡ c .at = cc in
           changed (both (ruleKept m t slot)) k (afterRule r s k)
           ∙ sym (after-first (ruleKept m t slot) r s k) ∙ after-same (ruleKept m t slot r) (known, t′) s k (c .at) b at ∙ after-first (λ (n : Known). (n, t′)) known s (c .at)
           ∙ sym (changed (both (λ (n : Known). (n, t′))) (c .at) (afterRule known s (c .at)))
       go (got r k) (read.Refused l p) f = cc
-      go none (read.Got items broken c) f = cc
+      go none (read.Got items warned broken c) f = cc
       go none (read.Refused l p) f = cc
-      go (refused l p) (read.Got items broken c) f = cc
+      go (refused l p) (read.Got items warned broken c) f = cc
       go (refused l p) (read.Refused o q) f = cc
 
   -- the same where the rule was read, up to c, and what parts it from the next is read as x
@@ -124,7 +120,7 @@ module _ (m : Manner) (t t′ : Tables) (slot separator : ℕ) (s : List ℕ) (i
       afterRule tt s (c .at) ≡ seenParted x →
       map (both (ruleKept m t slot)) (moreRules m (Another separator)) s i ≡ follow s i (seenParted x) (λ y. pure (both {B = Known × Tables} (λ _. (known, t′)) y)) nothing
   step-parted known c x e f g =
-      step (read.Got (known .0) (known .1) c) e f
+      step (read.Got (known .0) (known .1) (known .2) c) e f
       (after-first (λ (u : Unit {0}). known) tt s (c .at) ∙ ap (λ (r : Read (Unit {0} × Next)). follow s (c .at) r (λ y. pure (both (λ _. known) y)) nothing) g) ∙ go x
     where
       go : (x : Parted) → follow s i (follow s (c .at) (seenParted x) (λ y. pure (both (λ _. known) y)) nothing) (λ y. pure (both {B = Known × Tables} (λ k. (k, t′)) y)) nothing
@@ -132,11 +128,13 @@ module _ (m : Manner) (t t′ : Tables) (slot separator : ℕ) (s : List ℕ) (i
       go (parting.Got n k) = refl
       go (parting.Refused k p) = refl
 
--- a rule of so many items and with this first break is read at i, n follows it, up to the place k, and its records are kept from a slot on
-pub record Turned (m : Manner) (t t′ : Tables) (slot separator : ℕ) (s : List ℕ) (i items : ℕ) (broken : Break) (n : Next) (k : ℕ) : Type 0 where
+-- a rule of so many items, with so many warnings and this first break is read at i, n follows it, up to the place k, and its records are kept from a slot on
+pub record Turned (m : Manner) (t t′ : Tables) (slot separator : ℕ) (s : List ℕ) (i items warned : ℕ) (broken : Break) (n : Next) (k : ℕ) : Type 0 where
   pub rule : Rule
   pub is : moreRules m (Another separator) s i ≡ got (rule, n) k
   pub size : length (rule .1) ≡ items
+  pub warns : rule .0 .warnings ≡ warned
+  pub mild : warned ≤ suc items * 6
   pub judged : judgedBy m (ruleBreak rule) ≡ broken
   pub all : t′ ≡ allKept t slot (ruleRecords rule)
   pub later : i + suc items ≤ k
@@ -144,24 +142,27 @@ pub record Turned (m : Manner) (t t′ : Tables) (slot separator : ℕ) (s : Lis
 
 module _ (m : Manner) (t t′ : Tables) (slot separator : ℕ) (s : List ℕ) (i : ℕ) where
   -- what was found is a rule
-  pub turned : {items k : ℕ} {broken : Break} {n : Next} → map (both (ruleKept m t slot)) (moreRules m (Another separator)) s i ≡ got (((items, broken), t′), n) k →
-      Turned m t t′ slot separator s i items broken n k
-  turned {items} {k} {broken} {n} = go (moreRules m (Another separator) s i) refl (takes m (Another separator) s i) (more-takes m separator s i)
+  pub turned : {items warned k : ℕ} {broken : Break} {n : Next} → map (both (ruleKept m t slot)) (moreRules m (Another separator)) s i ≡ got (((items, warned, broken), t′), n) k →
+      Turned m t t′ slot separator s i items warned broken n k
+  turned {items} {warned} {k} {broken} {n} = go (moreRules m (Another separator) s i) refl (takes m (Another separator) s i) (more-takes m separator s i)
     where
-      go : (q : Read (Rule × Next)) → moreRules m (Another separator) s i ≡ q → Ends (λ j. (i < j) × (j ≤ length s)) q → Upto (λ x k. i + suc (length (x .0 .1)) ≤ k) q →
-          follow s i q (λ a. pure (both (ruleKept m t slot) a)) nothing ≡ got (((items, broken), t′), n) k → Turned m t t′ slot separator s i items broken n k
+      go : (q : Read (Rule × Next)) → moreRules m (Another separator) s i ≡ q → Ends (λ j. (i < j) × (j ≤ length s)) q → Upto (Taking i) q →
+          follow s i q (λ a. pure (both (ruleKept m t slot) a)) nothing ≡ got (((items, warned, broken), t′), n) k → Turned m t t′ slot separator s i items warned broken n k
       go (got x j) e p f h =
-          let v : both (ruleKept m t slot) x ≡ (((items, broken), t′), n) = cc in
+          let v : both (ruleKept m t slot) x ≡ (((items, warned, broken), t′), n) = cc in
           let a : length (x .0 .1) ≡ items = ap (λ (y : (Known × Tables) × Next). y .0 .0 .0) v in
+          let w : x .0 .0 .warnings ≡ warned = ap (λ (y : (Known × Tables) × Next). y .0 .0 .1) v in
           let b : x .1 ≡ n = ap (λ (y : (Known × Tables) × Next). y .1) v in
           let c : j ≡ k = cc in
           record {
             rule = x .0;
             is = rw (← b, ← c) e;
             size = a;
-            judged = ap (λ (y : (Known × Tables) × Next). y .0 .0 .1) v;
+            warns = w;
+            mild = omega (arith, a, w, f .1);
+            judged = ap (λ (y : (Known × Tables) × Next). y .0 .0 .2) v;
             all = sym (ap (λ (y : (Known × Tables) × Next). y .0 .1) v);
-            later = omega (arith, a, f, c);
+            later = omega (arith, a, f .0, c);
             stays = omega (arith, c, p .1);
           }
       go none e p f h = let z : _≡_ {A = ℕ} 0 1 = cc in absurd (omega arith)
@@ -178,68 +179,73 @@ module _ (m : Manner) (t t′ : Tables) (slot separator : ℕ) (s : List ℕ) (i
 
 -- ---- the rules that are left
 
--- after rules with so many records and this first break: how many records they all have, and tables with those of these from there on; the first break of all refuses them
-abbrev counted : Manner → Tables → ℕ → Break → List Rule × Unit {0} → Reader (ℕ × Tables)
-counted m t slot broken l = unbroken (slot + length (records (l .0)), allKept t slot (records (l .0))) (firstOf broken (judgedBy m (rulesBreak (l .0))))
+-- after rules with so many records and warnings and this first break: how many they all have, and tables with the records of these from there on; the first break of all refuses them
+abbrev counted : Manner → Tables → ℕ → ℕ → Break → List Rule × Unit {0} → Reader Totals
+counted m t slot warned broken l =
+    unbroken (slot + length (records (l .0)), warned + warnings (l .0), allKept t slot (records (l .0))) (firstOf broken (judgedBy m (rulesBreak (l .0))))
 
-abbrev pub keeping : Manner → Tables → ℕ → Break → Next → Reader (ℕ × Tables)
-keeping m t slot broken x = chain (moreRules m) noMore x >>= counted m t slot broken
+abbrev pub keeping : Manner → Tables → ℕ → ℕ → Break → Next → Reader Totals
+keeping m t slot warned broken x = chain (moreRules m) noMore x >>= counted m t slot warned broken
 
-module _ (m : Manner) (t t′ : Tables) (slot separator : ℕ) (s : List ℕ) (i : ℕ) where
-  -- records after a rule's
-  after-rule : (first : Break) {items k : ℕ} {broken : Break} {n : Next} (x : Turned m t t′ slot separator s i items broken n k) (l : List Rule × Unit {0}) →
-      counted m t slot first (before (x .rule) l) ≡ counted m t′ (slot + (items + 1)) (firstOf first broken) l
-  unfolding records rulesBreak
-  after-rule first {items} {k} {broken} x l =
+module _ (m : Manner) (t t′ : Tables) (slot separator : ℕ) (s : List ℕ) (i w : ℕ) where
+  -- records and warnings after a rule's
+  after-rule : (first : Break) {items warned k : ℕ} {broken : Break} {n : Next} (x : Turned m t t′ slot separator s i items warned broken n k) (l : List Rule × Unit {0}) →
+      counted m t slot w first (before (x .rule) l) ≡ counted m t′ (slot + (items + 1)) (w + warned) (firstOf first broken) l
+  unfolding records warnings rulesBreak
+  after-rule first {items} {warned} {k} {broken} x l =
       let e : slot + length (ruleRecords (x .rule)) ≡ slot + (items + 1) = omega (arith, length-map (x .rule .1) itemRecord, x .size) in
       let q : slot + length (records (x .rule ∷ l .0)) ≡ slot + (items + 1) + length (records (l .0)) = omega (arith, records-more (x .rule) (l .0), x .size) in
+      let v : w + (x .rule .0 .warnings + warnings (l .0)) ≡ w + warned + warnings (l .0) = omega (arith, x .warns) in
       let b : firstOf first (judgedBy m (rulesBreak (x .rule ∷ l .0))) ≡ firstOf (firstOf first broken) (judgedBy m (rulesBreak (l .0))) =
       ap (firstOf first) (judged-first m (ruleBreak (x .rule)) (rulesBreak (l .0)) ∙ ap (λ (o : Break). firstOf o (judgedBy m (rulesBreak (l .0)))) (x .judged))
       ∙ sym (first-assoc first broken (judgedBy m (rulesBreak (l .0)))) in
-      rw (q, all-append (ruleRecords (x .rule)) (records (l .0)) t slot, e, ← x .all, b)
+      rw (q, v, all-append (ruleRecords (x .rule)) (records (l .0)) t slot, e, ← x .all, b)
 
   -- by a rule more
-  keeping-more : (first : Break) {items k q : ℕ} {broken : Break} → Turned m t t′ slot separator s i items broken (Another q) k →
-      keeping m t slot first (Another separator) s i ≡ keeping m t′ (slot + (items + 1)) (firstOf first broken) (Another q) s k
-  keeping-more first {items} {k} {q} {broken} x =
+  keeping-more : (first : Break) {items warned k q : ℕ} {broken : Break} → Turned m t t′ slot separator s i items warned broken (Another q) k →
+      keeping m t slot w first (Another separator) s i ≡ keeping m t′ (slot + (items + 1)) (w + warned) (firstOf first broken) (Another q) s k
+  keeping-more first {items} {warned} {k} {q} {broken} x =
       rw (rules-are m (Another separator) s i, x .is)
       (go (chain (moreRules m) noMore (Another q) s k))
     where
-      go : (r : Read (List Rule × Unit {0})) → follow s i (follow s k r (λ l. pure (before (x .rule) l)) nothing) (counted m t slot first) nothing ≡ follow s k r
-          (counted m t′ (slot + (items + 1)) (firstOf first broken)) nothing
-      go (got l j) = ap (λ (f : Reader (ℕ × Tables)). f s j) (after-rule first x l)
+      go : (r : Read (List Rule × Unit {0})) → follow s i (follow s k r (λ l. pure (before (x .rule) l)) nothing) (counted m t slot w first) nothing ≡ follow s k r
+          (counted m t′ (slot + (items + 1)) (w + warned) (firstOf first broken)) nothing
+      go (got l j) = ap (λ (f : Reader Totals). f s j) (after-rule first x l)
       go none = refl
       go (refused e p) = refl
 
   -- by the last
-  all-end : {items k : ℕ} {broken : Break} (x : Turned m t t′ slot separator s i items broken Finished k) → chain (moreRules m) noMore (Another separator) s i ≡ got (x .rule ∷ [], tt) k
+  all-end : {items warned k : ℕ} {broken : Break} (x : Turned m t t′ slot separator s i items warned broken Finished k) →
+      chain (moreRules m) noMore (Another separator) s i ≡ got (x .rule ∷ [], tt) k
   unfolding moreRules noMore
-  all-end {items} {k} {broken} x = rules-are m (Another separator) s i
+  all-end {items} {warned} {k} {broken} x = rules-are m (Another separator) s i
       ∙ ap (λ (r : Read (Rule × Next)). follow s i r (λ c. map (before (c .0)) (chain (moreRules m) noMore (c .1))) nothing) (x .is) ∙ rw (rules-are m Finished s k)
 
-  keeping-end : (first : Break) {items k : ℕ} {broken : Break} → Turned m t t′ slot separator s i items broken Finished k →
-      keeping m t slot first (Another separator) s i ≡ unbroken (slot + (items + 1), t′) (firstOf first broken) s k
-  unfolding records allKept rulesBreak
-  keeping-end first {items} {k} {broken} x =
-      ap (λ (r : Read (List Rule × Unit {0})). follow s i r (counted m t slot first) nothing) (all-end x)
-      ∙ ap (λ (f : Reader (ℕ × Tables)). f s k) (after-rule first x ([], tt))
-      ∙ ap (λ (n : ℕ). unbroken (n, t′) (firstOf (firstOf first broken) (judgedBy m Nowhere)) s k) (add-zero (slot + (items + 1)))
-      ∙ ap (λ (b : Break). unbroken (slot + (items + 1), t′) b s k) (ap (firstOf (firstOf first broken)) (judged-none m) ∙ first-none (firstOf first broken))
+  keeping-end : (first : Break) {items warned k : ℕ} {broken : Break} → Turned m t t′ slot separator s i items warned broken Finished k →
+      keeping m t slot w first (Another separator) s i ≡ unbroken (slot + (items + 1), w + warned, t′) (firstOf first broken) s k
+  unfolding records warnings allKept rulesBreak
+  keeping-end first {items} {warned} {k} {broken} x =
+      ap (λ (r : Read (List Rule × Unit {0})). follow s i r (counted m t slot w first) nothing) (all-end x)
+      ∙ ap (λ (f : Reader Totals). f s k) (after-rule first x ([], tt))
+      ∙ ap (λ (n : ℕ). unbroken (n, w + warned + 0, t′) (firstOf (firstOf first broken) (judgedBy m Nowhere)) s k) (add-zero (slot + (items + 1)))
+      ∙ ap (λ (n : ℕ). unbroken (slot + (items + 1), n, t′) (firstOf (firstOf first broken) (judgedBy m Nowhere)) s k) (add-zero (w + warned))
+      ∙ ap (λ (b : Break). unbroken (slot + (items + 1), w + warned, t′) b s k) (ap (firstOf (firstOf first broken)) (judged-none m) ∙ first-none (firstOf first broken))
 
   -- by a refusal
-  keeping-refused : (broken : Break) {k p : ℕ} → map (both (ruleKept m t slot)) (moreRules m (Another separator)) s i ≡ refused k p → keeping m t slot broken (Another separator) s i ≡ refused k p
+  keeping-refused : (broken : Break) {k p : ℕ} → map (both (ruleKept m t slot)) (moreRules m (Another separator)) s i ≡ refused k p → keeping m t slot w broken (Another separator) s i ≡ refused k p
   keeping-refused broken e = rw (rules-are m (Another separator) s i, turned-refused m t t′ slot separator s i e)
 
--- from tables t and the place p: so many records are kept, which made the table, with this first break, and the rules from the place i on are left
-pub record Filling (m : Manner) (s : List ℕ) (p : ℕ) (t table : Tables) (slot i separator : ℕ) (broken : Break) : Type 0 where
+-- from tables t and the place p: so many records are kept, which made the table, with so many warnings and this first break, and the rules from the place i on are left
+pub record Filling (m : Manner) (s : List ℕ) (p : ℕ) (t table : Tables) (slot warned i separator : ℕ) (broken : Break) : Type 0 where
   pub words : length (table .0) ≡ length (t .0)
   pub bytes : length (table .1) ≡ length (t .1)
   pub low : slot ≤ i
   pub few : slot ≤ 4096
-  pub reads : rulesInto m t s p ≡ keeping m table slot broken (Another separator) s i
+  pub mild : warned ≤ slot * 6
+  pub reads : rulesInto m t s p ≡ keeping m table slot warned broken (Another separator) s i
 
 -- before the first rule
-pub filling-begin : (m : Manner) (s : List ℕ) (p : ℕ) (t : Tables) → Filling m s p t t 0 p 0 Nowhere
+pub filling-begin : (m : Manner) (s : List ℕ) (p : ℕ) (t : Tables) → Filling m s p t t 0 0 p 0 Nowhere
 unfolding rules judgedRules
 filling-begin m s p t =
     record {
@@ -247,41 +253,44 @@ filling-begin m s p t =
       bytes = refl;
       low = omega arith;
       few = omega arith;
+      mild = omega arith;
       reads = go (chain (moreRules m) noMore (Another 0) s p);
     }
   where
-    value : List Rule × Unit {0} → ℕ × Tables
-    value l = (length (records (l .0)), allKept t 0 (records (l .0)))
+    value : List Rule × Unit {0} → Totals
+    value l = (length (records (l .0)), warnings (l .0), allKept t 0 (records (l .0)))
 
-    judged : (l : List Rule × Unit {0}) (j : ℕ) (b : Break) → follow s p (unbroken l b s j) (λ k. pure (value k)) nothing ≡ unbroken (0 + length (records (l .0)), allKept t 0 (records (l .0))) b s j
-    judged l j Nowhere = rw (zero-add (length (records (l .0))))
+    judged : (l : List Rule × Unit {0}) (j : ℕ) (b : Break) →
+        follow s p (unbroken l b s j) (λ k. pure (value k)) nothing ≡ unbroken (0 + length (records (l .0)), 0 + warnings (l .0), allKept t 0 (records (l .0))) b s j
+    judged l j Nowhere = rw (zero-add (length (records (l .0))), zero-add (warnings (l .0)))
     judged l j (At k q) = refl
 
     go : (r : Read (List Rule × Unit {0})) → follow s p (follow s p r (λ l. unbroken l (judgedBy m (rulesBreak (l .0)))) nothing) (λ l. pure
-        (value l)) nothing ≡ follow s p r (counted m t 0 Nowhere) nothing
+        (value l)) nothing ≡ follow s p r (counted m t 0 0 Nowhere) nothing
     go (got l j) = judged l j (judgedBy m (rulesBreak (l .0)))
     go none = refl
     go (refused k q) = refl
 
-module _ (m : Manner) (s : List ℕ) (p : ℕ) (t table table′ : Tables) (slot i separator : ℕ) (first : Break) (f : Filling m s p t table slot i separator first) where
+module _ (m : Manner) (s : List ℕ) (p : ℕ) (t table table′ : Tables) (slot w i separator : ℕ) (first : Break) (f : Filling m s p t table slot w i separator first) where
   -- a rule more
-  pub filling-more : {items k q : ℕ} {broken : Break} → length s ≤ 4096 → length (table′ .0) ≡ length (table .0) → length (table′ .1) ≡ length (table .1) →
-      Turned m table table′ slot separator s i items broken (Another q) k →
-      Filling m s p t table′ (slot + (items + 1)) k q (firstOf first broken)
+  pub filling-more : {items warned k q : ℕ} {broken : Break} → length s ≤ 4096 → length (table′ .0) ≡ length (table .0) → length (table′ .1) ≡ length (table .1) →
+      Turned m table table′ slot separator s i items warned broken (Another q) k →
+      Filling m s p t table′ (slot + (items + 1)) (w + warned) k q (firstOf first broken)
   filling-more small a b x =
       record {
         words = a ∙ f .words;
         bytes = b ∙ f .bytes;
         low = omega (arith, f .low, x .later);
         few = omega (arith, f .low, x .later, x .stays);
-        reads = f .reads ∙ keeping-more m table table′ slot separator s i first x;
+        mild = omega (arith, f .mild, x .mild);
+        reads = f .reads ∙ keeping-more m table table′ slot separator s i w first x;
       }
 
   -- the last rule
-  pub filling-end : {items k : ℕ} {broken : Break} → Turned m table table′ slot separator s i items broken Finished k →
-      rulesInto m t s p ≡ unbroken (slot + (items + 1), table′) (firstOf first broken) s k
-  filling-end x = f .reads ∙ keeping-end m table table′ slot separator s i first x
+  pub filling-end : {items warned k : ℕ} {broken : Break} → Turned m table table′ slot separator s i items warned broken Finished k →
+      rulesInto m t s p ≡ unbroken (slot + (items + 1), w + warned, table′) (firstOf first broken) s k
+  filling-end x = f .reads ∙ keeping-end m table table′ slot separator s i w first x
 
   -- a refusal
   pub filling-refused : {k q : ℕ} → map (both (ruleKept m table slot)) (moreRules m (Another separator)) s i ≡ refused k q → rulesInto m t s p ≡ refused k q
-  filling-refused e = f .reads ∙ keeping-refused m table table′ slot separator s i first e
+  filling-refused e = f .reads ∙ keeping-refused m table table′ slot separator s i w first e

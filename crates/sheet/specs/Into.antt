@@ -6,18 +6,28 @@ use lib.ListN.{length}
 use Rattle.names.specs.Read.{Reader, map}
 use Rattle.names.specs.declared.Manner.{Manner}
 use Rattle.records.specs.Tables.{Tables, allKept}
-use Rattle.rules.specs.Rules.{rule}
+use Rattle.rules.specs.Rules.{Rule, rule}
 use Rattle.house.specs.Breaks.{ruleBreak, judgedBy}
 use Rattle.house.specs.declared.Break.{Break}
-use Rattle.sheet.specs.Texts.{judgedRules, ruleRecords, records}
+use Rattle.sheet.specs.Texts.{judgedRules, ruleRecords, records, warnings}
 
--- how many items a rule has and its first break, and the tables with its records from slot k on
-abbrev pub ruleInto : Manner → Tables → ℕ → ℕ → Reader ((ℕ × Break) × Tables)
-ruleInto m t k separator = map (λ r. ((length (r .1), judgedBy m (ruleBreak r)), allKept t k (ruleRecords r))) (rule m separator)
+-- what is known of a rule: how many items it has, how many warnings, and its first break
+abbrev pub Known : Type 0
+Known = ℕ × ℕ × Break
 
--- how many records the rules of a text have, and the tables with them
-abbrev pub rulesInto : Manner → Tables → Reader (ℕ × Tables)
-rulesInto m t = map (λ l. (length (records (l .0)), allKept t 0 (records (l .0)))) (judgedRules m)
+abbrev pub knownOf : Manner → Rule → Known
+knownOf m r = (length (r .1), r .0 .warnings, judgedBy m (ruleBreak r))
+
+-- this, and the tables with the rule's records from slot k on
+abbrev pub ruleInto : Manner → Tables → ℕ → ℕ → Reader (Known × Tables)
+ruleInto m t k separator = map (λ r. (knownOf m r, allKept t k (ruleRecords r))) (rule m separator)
+
+-- how many records the rules of a text have, how many warnings, and the tables with the records
+abbrev pub Totals : Type 0
+Totals = ℕ × ℕ × Tables
+
+abbrev pub rulesInto : Manner → Tables → Reader Totals
+rulesInto m t = map (λ l. (length (records (l .0)), warnings (l .0), allKept t 0 (records (l .0)))) (judgedRules m)
 
 -- what a reading answers, and the tables with its records
 abbrev pub into : {A : Type 0} → Tables → A × List (List ℤ) → A × Tables

@@ -1,7 +1,6 @@
 pub mod Heads
 pub mod Texts
 pub mod Into
-pub mod Warnings
 pub mod Sheets
 pub mod Parts
 pub mod PartReadings

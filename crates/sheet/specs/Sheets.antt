@@ -3,7 +3,7 @@ use Prim.Native.Nat.{ℕ, _*_, _/_}
 use mathlib.Core.List.{List, []}
 use lib.Dec.{ltb}
 use lib.IntN.{ℤ}
-use lib.ListN.{length, drop}
+use lib.ListN.{length}
 use Rattle.names.specs.Tests.{if_then_else_}
 use Rattle.names.specs.Read.{Read, got, none, refused}
 use Rattle.names.specs.Refusals.{noRoom, noShape, tooLong}
@@ -11,8 +11,7 @@ use Rattle.names.specs.declared.Manner.{Manner}
 use Rattle.names.specs.declared.Manner.the-variants.{First}
 use Rattle.rules.specs.Rules.{Rule}
 use Rattle.records.specs.Tables.{Layout, asWords, asBytes, laid}
-use Rattle.sheet.specs.Texts.{judgedRules, records}
-use Rattle.sheet.specs.Warnings.{warningsOf}
+use Rattle.sheet.specs.Texts.{judgedRules, records, warnings}
 use Rattle.sheet.specs.declared.Answer.{Answer}
 
 -- number, place, records, warnings
@@ -23,21 +22,21 @@ answerOf number place records warnings = record { number = number; place = place
 abbrev pub refusal : ℕ → ℕ → Answer × List (List ℤ)
 refusal number place = (answerOf number place 0 0, [])
 
--- these records, if the groups of 16 words in a table of n words are enough; else 10 at the text's first byte p
-abbrev pub stored : List ℕ → ℕ → ℕ → List (List ℤ) → Answer × List (List ℤ)
-stored s p n rs =
+-- these records, with so many warnings, if the groups of 16 words in a table of n words are enough; else 10 at the text's first byte p
+abbrev pub stored : ℕ → ℕ → ℕ → List (List ℤ) → Answer × List (List ℤ)
+stored p n warned rs =
     if ltb (n / 16) (length rs) then refusal noRoom p
-    else (answerOf 0 0 (length rs) (warningsOf (drop p s)), rs)
+    else (answerOf 0 0 (length rs) warned, rs)
 
 -- what the rules of a text come to. They are read or refused: there is never none of them (`rules-sure`, proofs/Sure.antt)
-abbrev pub judgedText : List ℕ → ℕ → ℕ → Read (List Rule × Unit {0}) → Answer × List (List ℤ)
-judgedText s p n (got l j) = stored s p n (records (l .0))
-judgedText s p n none = refusal noShape p
-judgedText s p n (refused k q) = refusal k q
+abbrev pub judgedText : ℕ → ℕ → Read (List Rule × Unit {0}) → Answer × List (List ℤ)
+judgedText p n (got l j) = stored p n (warnings (l .0)) (records (l .0))
+judgedText p n none = refusal noShape p
+judgedText p n (refused k q) = refusal k q
 
 -- the answer and the records of the text from place p on to the end of s, for a table of n words
 unfoldable pub textOf : Manner → List ℕ → ℕ → ℕ → Answer × List (List ℤ)
-textOf m s p n = judgedText s p n (judgedRules m s p)
+textOf m s p n = judgedText p n (judgedRules m s p)
 
 -- the answer and the records of a sheet: one of over 4,096 bytes is not read
 unfoldable pub sheetBy : Manner → List ℕ → ℕ → Answer × List (List ℤ)

@@ -1,5 +1,5 @@
 -- The rules of a text, left to right, and their records (docs/RULES.md, 1).
-use Prim.Native.Nat.{ℕ}
+use Prim.Native.Nat.{ℕ, _+_}
 use mathlib.Core.List.{List, [], _∷_, _++_, map}
 use lib.IntN.{ℤ}
 use Rattle.names.specs.declared.Manner.{Manner}
@@ -64,3 +64,8 @@ ruleRecords r = headWords (r .0) ∷ map itemRecord (r .1)
 unfoldable pub records : List Rule → List (List ℤ)
 records [] = []
 records (r ∷ rs) = ruleRecords r ++ records rs
+
+-- the warnings of rules
+unfoldable pub warnings : List Rule → ℕ
+warnings [] = 0
+warnings (r ∷ rs) = r .0 .warnings + warnings rs

@@ -8,7 +8,6 @@ mod parts;
 mod rule;
 mod sheets;
 mod texts;
-mod warnings;
 
 use house::Break;
 pub use houses::read_house_part;
@@ -61,9 +60,9 @@ pub struct NotePart {
     pub to: usize,
 }
 
-// What reading a rule finds: how many items it has, its first break of the house profile and the place after it; or a refusal with its number and place.
+// What reading a rule finds: how many items it has, how many warnings, its first break of the house profile and the place after it; or a refusal with its number and place.
 pub enum RuleRead {
-    Got(usize, Break, Cursor),
+    Got(usize, usize, Break, Cursor),
     Refused(u8, usize),
 }
 
@@ -73,8 +72,8 @@ pub enum Parted {
     Refused(u8, usize),
 }
 
-// What reading the rules of a text finds: how many records they have and the place after them, or a refusal with its number and place.
+// What reading the rules of a text finds: how many records they have, how many warnings, and the place after them; or a refusal with its number and place.
 pub enum Counted {
-    Got(usize, Cursor),
+    Got(usize, usize, Cursor),
     Refused(u8, usize),
 }

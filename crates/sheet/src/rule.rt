@@ -6,18 +6,29 @@ ghost use Rattle.names.specs.Read.{got};
 ghost use Rattle.rules.specs.Rules.{opening};
 ghost use Rattle.sheet.specs.Into.{ruleInto};
 ghost use Rattle.sheet.specs.Seen.{seenRuleInto};
+ghost use Rattle.sheet.specs.declared.RuleRead.the-variants.{Got};
 use crate::RuleRead;
 use crate::heads::keep_head;
 use house::Judgement;
 use names::Cursor;
 use names::Manner;
 use records::keep_item;
+use records::warnings_in;
+use rules::Head;
 use rules::Opening;
 use rules::OpeningRead;
 use rules::Piece;
 use rules::Spot;
 use rules::begin;
 use rules::head_of;
+
+// What a rule with this head comes to, judged so and read up to c.
+fn ended(head: Head, judged: Judgement, c: Cursor) -> RuleRead
+    ensures { λ r. ⌜ r ≡ Got (head .items) (head .warnings) (judged .first) c ⌝ }
+{
+    let first = judged.first;
+    RuleRead::Got(head.items, head.warnings, first, c)
+}
 
 // A rule that begins at a place is read on from c, where its opening ends.
 fn fill_pieces(
@@ -31,14 +42,13 @@ fn fill_pieces(
     bytes: &mut [u8],
     slot: usize,
 ) -> RuleRead
-    requires { ⌜ length (now s) ≤ 4096 ⌝ }
-    requires { ⌜ slot ≤ 4096 ⌝ }
-    requires { ⌜ opening (now s) place ≡ got start (c .at) ⌝ }
+    requires { ⌜ (length (now s) ≤ 4096) × (slot ≤ 4096) × (opening (now s) place ≡ got start (c .at)) ⌝ }
     ensures { λ r. ⌜ ruleInto m (now (words .entry), now (bytes .entry)) slot separator (now (s .entry)) place ≡ seenRuleInto r (now (words .exit), now (bytes .exit)) ⌝ }
 {
     let wide = start.comment;
     let stage = start.stage;
     let mut n: usize = 0;
+    let mut warned: usize = 0;
     let mut spot = Spot { at: c.at, stage };
     let mut judged = Judgement::begun(m, separator, place);
     loop {
@@ -46,21 +56,22 @@ fn fill_pieces(
         match piece {
             Piece::Item(a, p, kind, d) => {
                 n += 1;
+                warned += warnings_in(a) as usize;
                 spot = Spot::after(d, kind);
                 judged = judged.item(m, a, p);
                 keep_item(words, bytes, slot + n, a, p);
             }
             Piece::End(t, d) => {
-                keep_head(words, bytes, slot, head_of(place, separator, t, wide, n));
-                let first = judged.first;
-                return RuleRead::Got(n, first, d);
+                let head = head_of(place, separator, t, wide, n, warned);
+                keep_head(words, bytes, slot, head);
+                return ended(head, judged, d);
             }
             Piece::Refused(k, p) => return RuleRead::Refused(k, p),
         }
     }
 }
 
-// A rule is read: how many items it has, its first break and the place after it, or its refusal.
+// A rule is read: how many items it has, how many warnings, its first break and the place after it, or its refusal.
 // Its records go into both tables from a slot on, its head first, then its items, each where the table has its slot.
 pub fn fill_rule(
     s: &[u8],

@@ -11,7 +11,6 @@ use crate::Counted;
 use crate::Edition;
 use crate::editions::edition_of;
 use crate::texts::fill_rules;
-use crate::warnings::warnings_of;
 use names::Manner;
 use names::NO_ROOM;
 use names::TOO_LONG;
@@ -73,7 +72,7 @@ pub fn read_text(
     let mut none = [0u8; 0];
     let counted = fill_rules(s, m, p, &mut few, &mut none);
     match counted {
-        Counted::Got(n, _) => {
+        Counted::Got(n, warnings, _) => {
             if size / 16 < n {
                 return refusal(NO_ROOM, p);
             }
@@ -86,7 +85,7 @@ pub fn read_text(
                 number: 0,
                 place: 0,
                 records: n,
-                warnings: warnings_of(s, p),
+                warnings,
             }
         }
         Counted::Refused(k, q) => refusal(k, q),

@@ -33,22 +33,24 @@ pub fn parted(s: &[u8], c: Cursor) -> Parted
     }
 }
 
-// What rules with n records, up to c, come to: the first break refuses them when all are read.
-fn counted(n: usize, first: Break, c: Cursor) -> Counted
-    ensures { λ r. ⌜ ComesTo n first (c .at) r ⌝ }
+// What rules with n records and so many warnings, up to c, come to: the first break refuses them when all are read.
+fn counted(n: usize, warned: usize, first: Break, c: Cursor) -> Counted
+    ensures { λ r. ⌜ ComesTo n warned first (c .at) r ⌝ }
 {
     match first {
-        Break::Nowhere => Counted::Got(n, c),
+        Break::Nowhere => Counted::Got(n, warned, c),
         Break::At(k, p) => Counted::Refused(k, p),
     }
 }
 
-// The rules of the text from place p on are read and judged: how many records they have and the place after them, or their refusal. The records go into both tables, each where the table has its slot.
+// The rules of the text from place p on are read and judged: how many records they have, how many warnings, and the place after them, or their refusal.
+// The records go into both tables, each where the table has its slot.
 pub fn fill_rules(s: &[u8], m: Manner, p: usize, words: &mut [i32], bytes: &mut [u8]) -> Counted
     requires { ⌜ length (now s) ≤ 4096 ⌝ }
     ensures { λ r. ⌜ rulesInto m (now (words .entry), now (bytes .entry)) (now (s .entry)) p ≡ seenRulesInto r (now (words .exit), now (bytes .exit)) ⌝ }
 {
     let mut slot: usize = 0;
+    let mut warned: usize = 0;
     let mut at = p;
     let mut separator: u8 = 0;
     let mut broken = Break::Nowhere;
@@ -56,14 +58,15 @@ pub fn fill_rules(s: &[u8], m: Manner, p: usize, words: &mut [i32], bytes: &mut 
         let c = Cursor { at }.blanks(s);
         let r = fill_rule(s, m, c, separator, words, bytes, slot);
         match r {
-            RuleRead::Got(items, first, d) => {
+            RuleRead::Got(items, warnings, first, d) => {
                 let after = parted(s, d);
                 match after {
                     Parted::Got(next, e) => {
                         slot += items + 1;
+                        warned += warnings;
                         broken = first_of(broken, first);
                         let Next::Another(k) = next else {
-                            return counted(slot, broken, e);
+                            return counted(slot, warned, broken, e);
                         };
                         separator = k;
                         at = e.at;

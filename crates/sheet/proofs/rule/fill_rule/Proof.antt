@@ -21,7 +21,7 @@ fill-rule-spec =
     (tie.spec
     (λ c κs. search needs)  -- begin-requires
     (λ c. search needs)  -- enum-known-o
-    (λ c κs. let o = c .before .before .before in let z = o .before .before .before .before .before in (z .pre .0, (z .pre .1, opened o .is)))  -- fill-pieces-requires
+    (λ c κs. let o = c .before .before .before in let z = o .before .before .before .before .before in (z .pre .0, z .pre .1, opened o .is))  -- fill-pieces-requires
     (λ c. search needs)  -- enum-known-o-2
     (λ c. c .before .before .words .given)  -- same-length
     (λ c. c .before .bytes .given)  -- same-length-2

@@ -2,13 +2,11 @@
 use borrow.Author.Needs.{needs}
 use native.Mathlib.Omega.{arith}
 use mathlib.Core.List.{[]}
-use mathlib.Core.Logic.{⊎-elim}
-use mathlib.Core.Path.{_≡_, ap, _∙_}
+use mathlib.Core.Path.{ap, _∙_}
 use denote.Ref.{now}
 use lib.IntN.{pos}
-use lib.ListN.{length, replicate}
-use Rattle.records.specs.Tables.{Tables, allKept}
-use Rattle.sheet.specs.Texts.{records}
+use lib.ListN.{replicate}
+use Rattle.records.specs.Tables.{Tables}
 use Rattle.sheet.specs.Seen.{seenRulesInto}
 use Rattle.sheet.specs.declared.Counted.{Counted}
 use Rattle.sheet.proofs.Readings.{Kept, kept-is, text-refused, again, taken, text-full, text-accepted}
@@ -24,19 +22,8 @@ own c = (c .fill-rules .last .1 .1 .1 .0, c .fill-rules .last .1 .1 .1 .1 .0)
 
 -- so many records were counted, and kept
 many : (c : tie.After-counted) → let f = c .before .before .before .before in let a = f .before .before .before .before .before .args in
-    Kept (a .m) empty (own f) (now (a .s)) (a .p) (c .counted .given .0 .0)
+    Kept (a .m) empty (own f) (now (a .s)) (a .p) (c .counted .given .0 .0) (c .counted .given .0 .1 .0)
 many c = let f = c .before .before .before .before in kept-is _ _ _ empty (own f) (f .fill-rules .ensures ∙ ap (λ (r : Counted). seenRulesInto r (own f)) (c .counted .given .1))
-
--- either way the tables have them
-filled : (c : tie.Joined2) → let k = c .before .before .before in let a = k .before .before .before .before .before .before .before .before .before .args in
-    (c .if2 .words, c .if2 .bytes) ≡ allKept (now (a .words), now (a .bytes)) 0 (records (many k .list))
-filled c =
-    let k = c .before .before .before in let f = k .before .before .before .before in let a = f .before .before .before .before .before .args in
-    let u : Tables = (now (a .words), now (a .bytes)) in
-    ⊎-elim
-    (λ t. rw (t .7, t .8) (again (a .m) (now (a .s)) (a .p) empty (own f) u (many k) (t .3 .result) (t .3 .ensures)))
-    (λ t. rw (t .8, t .9) (t .4 .ensures ∙ ap (allKept u 0) (taken (a .m) (now (a .s)) (a .p) empty (own f) u (many k) (omega (arith, t .0 .left)))))
-    (c .if2 .came)
 
 pub read-text-spec : {M : Type 1} → statement M
 read-text-spec =
@@ -53,14 +40,20 @@ read-text-spec =
     (λ c κs. search needs)  -- fill-rules-requires-2
     (λ c. search needs)  -- slice-aggregate-put-records
     (λ c κs. search needs)  -- put-records-requires
-    (λ c κs. search needs)  -- warnings-of-requires
     (λ c. search needs)  -- enum-known-counted-2
     (λ c κs. search needs)  -- refusal-requires-2
-    (λ c. ⊎-elim (λ t. ap length (t .7) ∙ t .4 .given) (λ t. ap length (t .8) ∙ t .5 .given) (c .before .if2 .came))  -- same-length
-    (λ c. ⊎-elim (λ t. ap length (t .8) ∙ t .5 .given) (λ t. ap length (t .9) ∙ t .6 .given) (c .before .if2 .came))  -- same-length-2
-    (λ c. let i = c .before .before in let k = i .before .before in let f = k .before .before .before .before in
+    (λ c. c .before .before .words .given)  -- same-length
+    (λ c. c .before .bytes .given)  -- same-length-2
+    (λ c. let g = c .before .before .before in let i = g .before .before .before .before in let k = i .before .before in let f = k .before .before .before .before in
     let a = f .before .before .before .before .before .args in let u : Tables = (now (a .words), now (a .bytes)) in
-    rw (c .warnings-of .ensures, filled (c .before)) (text-accepted (a .m) (now (a .s)) (a .p) empty (own f) u (many k) (a .size) (i .if1 .left)))  -- returns-2
+    rw (again (a .m) (now (a .s)) (a .p) empty (own f) u (many k) (g .fill-rules2 .result) (g .fill-rules2 .ensures))
+    (text-accepted (a .m) (now (a .s)) (a .p) empty (own f) u (many k) (a .size) (i .if1 .left)))  -- returns-2
+    (λ c. c .before .before .words2 .given)  -- same-length-3
+    (λ c. c .before .bytes2 .given)  -- same-length-4
+    (λ c. let g = c .before .before .before in let e = g .before .before .before .before in let i = e .before in let k = i .before .before in let f = k .before .before .before .before in
+    let a = f .before .before .before .before .before .args in let u : Tables = (now (a .words), now (a .bytes)) in
+    rw (g .put-records .ensures, taken (a .m) (now (a .s)) (a .p) empty (own f) u (many k) (omega (arith, e .if2 .left)))
+    (text-accepted (a .m) (now (a .s)) (a .p) empty (own f) u (many k) (a .size) (i .if1 .left)))  -- returns-3
     (λ c. let k = c .before .before in let f = k .before .before .before .before in let a = f .before .before .before .before .before .args in let u : Tables = (now (a .words), now (a .bytes)) in
     ap (λ r. (r, u)) (c .refusal2 .ensures) ∙ text-refused (a .m) (now (a .s)) (a .p) empty u (a .size) (f .fill-rules .ensures
-    ∙ ap (λ (r : Counted). seenRulesInto r (own f)) (k .counted2 .given .1))))  -- returns-3
+    ∙ ap (λ (r : Counted). seenRulesInto r (own f)) (k .counted2 .given .1))))  -- returns-4

@@ -10,20 +10,20 @@ use Rattle.records.specs.Tables.{Tables}
 use Rattle.rules.specs.declared.Next.{Next}
 use Rattle.rules.specs.declared.Next.the-variants.{Another}
 use Rattle.sheet.specs.Texts.{moreRules}
-use Rattle.sheet.specs.Into.{ruleInto}
+use Rattle.sheet.specs.Into.{Known, ruleInto}
 use Rattle.sheet.specs.Seen.{seenRuleInto, seenParted}
 use Rattle.sheet.specs.declared.RuleRead.{RuleRead}
 use Rattle.sheet.specs.declared.RuleRead.the-variants as rule-read
 use Rattle.sheet.specs.declared.Parted.{Parted}
-use Rattle.sheet.proofs.Turns.{both, Known, ruleKept, step, step-parted, Turned, turned, Filling, filling-begin, filling-more, filling-end, filling-refused}
+use Rattle.sheet.proofs.Turns.{both, ruleKept, step, step-parted, Turned, turned, Filling, filling-begin, filling-more, filling-end, filling-refused}
 use Rattle.sheet.proofs.texts.fill_rules.Statement.{statement}
 use Rattle.sheet.proofs.texts.fill_rules.Tie as tie
 
 abbrev Inv-loop : tie.InvT-loop
-Inv-loop s m p words₀ bytes₀ slot₀ at₀ separator₀ broken₀ words bytes slot at separator broken = Filling m s p (words₀, bytes₀) (words, bytes) slot at separator broken
+Inv-loop s m p words₀ bytes₀ slot₀ warned₀ at₀ separator₀ broken₀ words bytes slot warned at separator broken = Filling m s p (words₀, bytes₀) (words, bytes) slot warned at separator broken
 
 abbrev μ-loop : tie.MeasureT-loop
-μ-loop s m p words₀ bytes₀ slot₀ at₀ separator₀ broken₀ words bytes slot at separator broken = length s - at
+μ-loop s m p words₀ bytes₀ slot₀ warned₀ at₀ separator₀ broken₀ words bytes slot warned at separator broken = length s - at
 
 -- the loop's turn in which a rule was read
 abbrev loop : tie.After-fill-rule Inv-loop μ-loop → tie.At-loop Inv-loop μ-loop
@@ -53,11 +53,11 @@ rule p = p .before .before
 abbrev Reads : tie.After-parted Inv-loop μ-loop → Parted → Type 0
 Reads p x = let f = read (rule p) in let l = loop f in let z = l .before .before .before in let s = now (z .args .s) in let g = rule p .r .given .0 in
     map (both (ruleKept (z .args .m) (tables f) (l .loop .slot))) (moreRules (z .args .m) (Another (l .loop .separator))) s (l .loop .at)
-    ≡ follow s (l .loop .at) (seenParted x) (λ y. pure (both {B = Known × Tables} (λ _. ((g .0, g .1 .0), after f)) y)) nothing
+    ≡ follow s (l .loop .at) (seenParted x) (λ y. pure (both {B = Known × Tables} (λ _. ((g .0, g .1 .0, g .1 .1 .0), after f)) y)) nothing
 
 reads : (p : tie.After-parted Inv-loop μ-loop) {x : Parted} → p .parted .result ≡ x → Reads p x
 reads p e = let r = rule p in let f = read r in let g = r .r .given .0 in
-    subst (Reads p) e (step-parted _ (tables f) (after f) _ _ _ _ (g .0, g .1 .0) (g .1 .1 .0) (p .parted .result) (f .before .before .before .blanks .ensures)
+    subst (Reads p) e (step-parted _ (tables f) (after f) _ _ _ _ (g .0, g .1 .0, g .1 .1 .0) (g .1 .1 .1 .0) (p .parted .result) (f .before .before .before .blanks .ensures)
     (answers f (r .r .given .1)) (p .parted .ensures))
 
 -- a rule, and what follows it
@@ -67,7 +67,7 @@ of a = rule (a .before .before)
 abbrev Turn : tie.After-after Inv-loop μ-loop → Next → Type 0
 Turn a n =
     let f = read (of a) in let l = loop f in let z = l .before .before .before in let g = of a .r .given .0 in
-    Turned (z .args .m) (tables f) (after f) (l .loop .slot) (l .loop .separator) (now (z .args .s)) (l .loop .at) (g .0) (g .1 .0) n (a .after .given .0 .1 .0 .at)
+    Turned (z .args .m) (tables f) (after f) (l .loop .slot) (l .loop .separator) (now (z .args .s)) (l .loop .at) (g .0) (g .1 .0) (g .1 .1 .0) n (a .after .given .0 .1 .0 .at)
 
 turn : (a : tie.After-after Inv-loop μ-loop) {n : Next} → a .after .given .0 .0 ≡ n → Turn a n
 turn a e = subst (Turn a) e (turned _ _ _ _ _ _ _ (reads (a .before .before) (a .after .given .1)))
@@ -86,6 +86,8 @@ fill-rules-spec =
     (λ c. search needs)  -- enum-known-after
     (λ c. let a = c .before in let l = loop (read (of a)) in omega (arith, turn a refl .later, turn a refl .stays, l .before .before .before .pre))  -- add-slot
     (λ c. let a = c .before in let l = loop (read (of a)) in omega (arith, turn a refl .later, turn a refl .stays, l .loop .inv .low, l .before .before .before .pre))  -- add-slot-2
+    (λ c. let a = c .before in let l = loop (read (of a)) in
+    omega (arith, turn a refl .mild, turn a refl .later, turn a refl .stays, l .loop .inv .mild, l .loop .inv .few, l .before .before .before .pre))  -- add-warned
     (λ c κs. search needs)  -- first-of-requires
     (λ c. search needs)  -- enum-known-next
     (λ c. search needs)  -- enum-told
@@ -93,21 +95,22 @@ fill-rules-spec =
     (λ c. let r = of (c .before .before .before .before .before) in r .before .before .before .before .words .given ∙ loop (read r) .loop .inv .words)  -- same-length
     (λ c. let r = of (c .before .before .before .before .before) in r .before .before .before .bytes .given ∙ loop (read r) .loop .inv .bytes)  -- same-length-2
     (λ c. let e = c .before in let o = e .before .before in let a = o .before .before in let f = read (of a) in let l = loop f in
-    filling-end _ _ _ _ (tables f) (after f) (l .loop .slot) (l .loop .at) (l .loop .separator) (l .loop .broken) (l .loop .inv) (turn a (e .enum-told .given .1))
+    filling-end _ _ _ _ (tables f) (after f) (l .loop .slot) (l .loop .warned) (l .loop .at) (l .loop .separator) (l .loop .broken) (l .loop .inv) (turn a (e .enum-told .given .1))
     ∙ rw (← o .first-of .ensures) (c .counted .ensures _ _))  -- returns
     (λ c. let b = c .before in let t = turn (b .before .before .before .before) (b .next .given .1) in omega (arith, t .later, t .stays))  -- loop-less
     (λ c. let b = c .before in let o = b .before .before in let a = o .before .before in let r = of a in let f = read r in let l = loop f in
     rw (o .first-of .ensures)
-    (filling-more _ _ _ _ (tables f) (after f) (l .loop .slot) (l .loop .at) (l .loop .separator) (l .loop .broken) (l .loop .inv) (l .before .before .before .pre)
+    (filling-more _ _ _ _ (tables f) (after f) (l .loop .slot) (l .loop .warned) (l .loop .at) (l .loop .separator) (l .loop .broken) (l .loop .inv) (l .before .before .before .pre)
     (r .before .before .before .before .words .given) (r .before .before .before .bytes .given) (turn a (b .next .given .1))))  -- loop-again
     (λ c. search needs)  -- enum-known-after-2
     (λ c. let r = rule (c .before .before .before) in r .before .before .before .before .words .given ∙ loop (read r) .loop .inv .words)  -- same-length-3
     (λ c. let r = rule (c .before .before .before) in r .before .before .before .bytes .given ∙ loop (read r) .loop .inv .bytes)  -- same-length-4
     (λ c. let p = c .before .before .before in let f = read (rule p) in let l = loop f in
-    filling-refused _ _ _ _ (tables f) (after f) (l .loop .slot) (l .loop .at) (l .loop .separator) (l .loop .broken) (l .loop .inv) (reads p (c .before .after2 .given .1)))  -- returns-2
+    filling-refused _ _ _ _ (tables f) (after f) (l .loop .slot) (l .loop .warned) (l .loop .at) (l .loop .separator) (l .loop .broken) (l .loop .inv)
+    (reads p (c .before .after2 .given .1)))  -- returns-2
     (λ c. search needs)  -- enum-known-r-2
     (λ c. c .before .before .before .before .before .words .given ∙ loop (c .before .before .before .before .before .before) .loop .inv .words)  -- same-length-5
     (λ c. c .before .before .before .before .bytes .given ∙ loop (c .before .before .before .before .before .before) .loop .inv .bytes)  -- same-length-6
     (λ c. let f = c .before .before .before .before .before .before in let l = loop f in let g = c .before .r2 .given in
-    filling-refused _ _ _ _ (tables f) (after f) (l .loop .slot) (l .loop .at) (l .loop .separator) (l .loop .broken) (l .loop .inv)
+    filling-refused _ _ _ _ (tables f) (after f) (l .loop .slot) (l .loop .warned) (l .loop .at) (l .loop .separator) (l .loop .broken) (l .loop .inv)
     (step _ (tables f) (after f) _ _ _ _ (rule-read.Refused (g .0 .0) (g .0 .1 .0)) (f .before .before .before .blanks .ensures) (answers f (g .1)) refl)))  -- returns-3
