@@ -12,13 +12,15 @@ use Rattle.names.specs.declared.Manner.{Manner}
 use Rattle.names.specs.Tests.{within}
 use Rattle.names.specs.Read.{Read, got, none, refused, Reader, follow, nothing, pure, map, _>>=_}
 use Rattle.names.specs.Chain.{before, last, chainIn, chain}
-use Rattle.names.specs.Names.{Row, names, spelledSo, lower, letter, firstOf, word, name, weekday, holiday, event, week}
+use Rattle.names.specs.Names.{Word, Row, names, spelledSo, lower, letter, firstOf, word, name, weekday, holiday, event, week}
+use Rattle.names.specs.Spellings.{oddFrom, named, spelled}
 use Rattle.names.proofs.Local.{Stop, keep, Local, past, past-one, loose, free, nothing-local, pure-local, here-then, only-local, branch-moved, branch-local, bind-local, then-local}
 use Rattle.names.proofs.Local.{map-local, or-local}
 use Rattle.names.proofs.Upto.{Upto, upto-then, upto-map, upto-less}
 use Rattle.names.proofs.Chains.{step-moves}
 use Rattle.names.proofs.Cut.{byte-local, blank-local, comma-local, hour-local, minute-local}
 use Rattle.names.proofs.NameCut.{plain, allOf-local, name-local}
+use Rattle.names.proofs.Odd.{odd-local, named-local}
 use Rattle.records.specs.declared.Item.{Item}
 use Rattle.records.proofs.Cut.{Alike, item-alike}
 use Rattle.times.specs.Times.{clock, eventWithOffset, rawTime}
@@ -72,9 +74,19 @@ module _ {u : List ℕ} where
   unfolding name
   name-two k = then-local word-two (λ w. then-local (only-local (eqb (w .0) k)) (λ _. pure-local (w .1)))
 
+  named-two : (k : ℕ) → Alike u 2 (named k)
+  unfolding named
+  named-two k = let f : ℕ → Reader (ℕ × Bool) = λ p. name k >>= λ v. oddFrom k p >>= λ o. pure (v, o) in
+      here-then f f (λ p. then-local (name-two k) (λ v. then-local (odd-local k p) (λ o. pure-local (v, o))))
+
+  spelled-two : Alike u 2 spelled
+  unfolding spelled
+  spelled-two = let f : ℕ → Reader (Word × Bool) = λ p. word >>= λ w. oddFrom (w .0) p >>= λ o. pure (w, o) in
+      here-then f f (λ p. then-local word-two (λ w. then-local (odd-local (w .0) p) (λ o. pure-local (w, o))))
+
   weekday-two : (m : Manner) → Alike u 2 (weekdayItem m)
   unfolding weekdayItem weekdayShape
-  weekday-two m = item-alike (then-local (name-two weekday) (weekdayAfter-alike m)) weekdayMeaning weekday-refuses
+  weekday-two m = item-alike (then-local (named-two weekday) (weekdayAfter-alike m)) weekdayMeaning weekday-refuses
 
   holiday-two : Alike u 2 holidayItem
   unfolding holidayItem holidayShape
@@ -87,20 +99,20 @@ module _ {u : List ℕ} where
   event-two : Alike u 2 eventWithOffset
   unfolding eventWithOffset
   event-two =
-      bind-local (byte-local 40 refl refl) (λ _. then-local (name-local event) (λ e. then-local (free (withOffset-alike e)) (λ t. then-local (free
+      bind-local (byte-local 40 refl refl) (λ _. then-local (named-local event) (λ e. then-local (free (withOffset-alike e)) (λ t. then-local (free
       (byte-local 41 refl refl)) (λ _. pure-local t))))
 
   time-two : (m : Manner) → Alike u 2 (timeItem m)
   unfolding timeItem spanShape rawTime
   time-two m =
-      item-alike (then-local (or-local (then-local clock-two (λ c. pure-local _)) (or-local (then-local (name-two event)
+      item-alike (then-local (or-local (then-local clock-two (λ c. pure-local _)) (or-local (then-local (named-two event)
       (λ e. pure-local _)) event-two)) spanAfter-alike) (spanMeaning m) (meaning-refuses m)
 
   month-day-two : Alike u 2 monthDayItem
   unfolding monthDayItem
   month-day-two =
-      let f : ℕ → Reader Item = λ p. optionalYear >>= λ y. word >>= λ w. monthDayAfter p y w in
-      here-then f f (λ p. bind-local optionalYear-alike (λ y. then-local word-two (monthDayAfter-alike p y)))
+      let f : ℕ → Reader Item = λ p. optionalYear >>= λ y. spelled >>= λ w. monthDayAfter p y w in
+      here-then f f (λ p. bind-local optionalYear-alike (λ y. then-local spelled-two (monthDayAfter-alike p y)))
 
   weeks-two : Local Stop placedMoves u false false 2 weeks weeks
   unfolding weeks
