@@ -13,18 +13,19 @@ use Rattle.names.specs.Texts.{byte, allOf, blanks, blank, comma}
 use Rattle.names.specs.Numbers.{isDigit, digit, enough, upTo, digits, clockAfter, number}
 use Rattle.names.specs.Names.{Row, names, letter, firstOf, word, name, weekday, event, holiday, day}
 use Rattle.names.specs.Names as names
+use Rattle.names.specs.Spellings.{oddFrom, named, spelled}
 use Rattle.names.specs.declared.Manner.the-variants.{Second}
 use Rattle.records.specs.Items.{judged, meant, item}
 use Rattle.records.specs.declared.Meant.{Meant}
 use Rattle.records.specs.declared.Meant.the-variants.{Is, Refused}
-use Rattle.times.specs.Times.{clock, withOffset, eventWithOffset, rawTime}
+use Rattle.times.specs.Times.{Event, clock, withOffset, eventWithOffset, rawTime}
 use Rattle.times.specs.Spans.{repeated, tail, untilTime, spanAfter, spanShape, timeItem}
 use Rattle.times.specs.Meanings.{goodSpan, spanOf, spanMeaning}
 use Rattle.times.specs.declared.RawTime.{RawTime}
 use Rattle.times.specs.Shapes.{RawSpan, Alone, Open, Until}
 use Rattle.days.specs.Offsets.{plusOrMinus, dayOffset, anyDays, wdayOffset, offset, goodDays, daysOf}
 use Rattle.days.specs.Entries.{backEntry, frontEntry, entry, nextEntry, entries, bits}
-use Rattle.days.specs.Weekdays.{lastWeekday, bracketed, wideAfter, weekdayShape, flagged, weekdayMeaning, weekdayItem}
+use Rattle.days.specs.Weekdays.{Weekday, again, lastWeekday, bracketed, wideAfter, weekdayShape, flagged, weekdayMeaning, weekdayItem}
 use Rattle.days.specs.Holidays.{holidayAfter, holidayShape, holidayMeaning, holidayItem}
 use Rattle.days.specs.declared.RawWeekdays.{RawWeekdays}
 use Rattle.days.specs.declared.RawHoliday.{RawHoliday}
@@ -168,6 +169,18 @@ pub name-tells : (k : ℕ) → Tells (name k)
 unfolding name
 name-tells k = then-tells word-tells (λ w. then-tells (only-tells (eqb (w .0) k)) (λ _. pure-tells (w .1)))
 
+-- whether a name calls for a warning is told without refusing
+odd-tells : (k p : ℕ) → Tells (oddFrom k p)
+odd-tells k p = record { tells = λ s i. tt }
+
+pub named-tells : (k : ℕ) → Tells (named k)
+unfolding named
+named-tells k = then-tells here-tells (λ p. then-tells (name-tells k) (λ v. then-tells (odd-tells k p) (λ o. pure-tells (v, o))))
+
+pub spelled-tells : Tells spelled
+unfolding spelled
+spelled-tells = then-tells here-tells (λ p. then-tells word-tells (λ w. then-tells (odd-tells (w .0) p) (λ o. pure-tells (w, o))))
+
 -- ---- judgements
 
 abbrev pub OtherMeant : Meant → Type 0
@@ -194,17 +207,17 @@ clock-tells : Tells clock
 unfolding clock
 clock-tells = then-tells (digits-tells 1 2) (λ h. then-tells (byte-tells 58) (λ _. then-tells (digits-tells 2 2) (λ m. pure-tells _)))
 
-withOffset-tells : (e : ℕ) → Tells (withOffset e)
+withOffset-tells : (e : Event) → Tells (withOffset e)
 unfolding withOffset
 withOffset-tells e = or-tells (then-tells (byte-tells 43) (λ _. then-tells clock-tells (λ c. pure-tells _))) (then-tells (byte-tells 45) (λ _. then-tells clock-tells (λ c. pure-tells _)))
 
 eventWithOffset-tells : Tells eventWithOffset
 unfolding eventWithOffset
-eventWithOffset-tells = then-tells (byte-tells 40) (λ _. then-tells (name-tells event) (λ e. then-tells (withOffset-tells e) (λ t. then-tells (byte-tells 41) (λ _. pure-tells t))))
+eventWithOffset-tells = then-tells (byte-tells 40) (λ _. then-tells (named-tells event) (λ e. then-tells (withOffset-tells e) (λ t. then-tells (byte-tells 41) (λ _. pure-tells t))))
 
 rawTime-tells : Tells rawTime
 unfolding rawTime
-rawTime-tells = or-tells (then-tells clock-tells (λ c. pure-tells _)) (or-tells (then-tells (name-tells event) (λ e. pure-tells _)) eventWithOffset-tells)
+rawTime-tells = or-tells (then-tells clock-tells (λ c. pure-tells _)) (or-tells (then-tells (named-tells event) (λ e. pure-tells _)) eventWithOffset-tells)
 
 repeated-tells : Tells repeated
 unfolding repeated
@@ -258,7 +271,7 @@ anyDays-tells = or-tells dayOffset-tells (pure-tells _)
 
 wdayOffset-tells : Tells wdayOffset
 unfolding wdayOffset
-wdayOffset-tells = then-tells plusOrMinus-tells (λ negative. then-tells (name-tells weekday) (λ w. pure-tells _))
+wdayOffset-tells = then-tells plusOrMinus-tells (λ negative. then-tells (named-tells weekday) (λ w. pure-tells _))
 
 pub offset-tells : Tells offset
 unfolding offset
@@ -286,24 +299,25 @@ entries-tells = then-tells entry-tells (λ e. then-tells (many-tells nextEntry-t
 
 lastWeekday-tells : Tells lastWeekday
 unfolding lastWeekday
-lastWeekday-tells = then-tells (byte-tells 45) (λ _. name-tells weekday)
+lastWeekday-tells = then-tells (byte-tells 45) (λ _. named-tells weekday)
 
 bracketed-tells : Tells bracketed
 unfolding bracketed
 bracketed-tells = then-tells (byte-tells 91) (λ _. then-tells entries-tells (λ m. then-tells (byte-tells 93) (λ _. pure-tells m)))
 
-wideAfter-tells : (first : ℕ) → Tells (wideAfter first)
+wideAfter-tells : (first : Weekday) → Tells (wideAfter first)
 unfolding wideAfter
-wideAfter-tells first = then-tells (or-tells lastWeekday-tells (pure-tells first)) (λ last. then-tells (or-tells bracketed-tells (pure-tells _)) (λ m. then-tells anyDays-tells (λ d. pure-tells _)))
+wideAfter-tells first = then-tells (or-tells lastWeekday-tells (pure-tells (again first))) (λ last. then-tells (or-tells bracketed-tells (pure-tells _)) (λ m. then-tells anyDays-tells (λ d. pure-tells _)))
 
 weekdayShape-tells : Tells (weekdayShape Second)
 unfolding weekdayShape
-weekdayShape-tells = then-tells (name-tells weekday) wideAfter-tells
+weekdayShape-tells = then-tells (named-tells weekday) wideAfter-tells
 
 weekday-other : (r : RawWeekdays) → OtherMeant (weekdayMeaning r)
 unfolding weekdayMeaning flagged
 weekday-other r =
-    other-if (not (r.marks .good && goodDays r.days)) (Refused 4) (flagged r.first r.last (daysOf r.days) (bits (r.marks .starts)) (bits (r.marks .ends))) (λ e. omega arith)
+    other-if (not (r.marks .good && goodDays r.days)) (Refused 4) (flagged (r.first, r.«odd_first») (r.last, r.«odd_last») (daysOf r.days) (bits (r.marks .starts)) (bits (r.marks .ends)))
+    (λ e. omega arith)
     (other-if (eqb (bits (r.marks .starts)) 0 && eqb (bits (r.marks .ends)) 0) _ _ tt tt)
 
 pub weekdayItem-tells : Tells (weekdayItem Second)

@@ -19,9 +19,10 @@ use Rattle.records.specs.declared.Day.{Day}
 use Rattle.records.specs.declared.Day.the-variants.{Fixed, Weekday, Easter}
 use Rattle.records.specs.declared.Date.{Date}
 use Rattle.records.specs.declared.DateOffset.{DateOffset}
-use Rattle.dates.specs.Dates.{optionalYear, backNth, frontNth, nth, weekdayOf, dayOf, dayAfter, rawDate, date}
+use Rattle.records.specs.declared.Odd.{Odd}
+use Rattle.dates.specs.Dates.{Spelt, optionalYear, backNth, frontNth, nth, weekdayOf, dayOf, dayAfter, rawDate, date}
 use Rattle.dates.specs.Ends.{untilDate, bareDay, until, endShape, datesAfter}
-use Rattle.dates.specs.Meanings.{goodYears, goodDates, dated, offsetOf, bare, ended, dateMeaning, monthMeaning}
+use Rattle.dates.specs.Meanings.{goodYears, goodDates, dated, offsetOf, oddOf, bareOdd, bare, ended, dateMeaning, monthMeaning}
 use Rattle.dates.specs.MonthDays.{lastMonth, monthAfter, monthItemAfter, dateItemAfter, monthDayAfter, monthDayItem}
 use Rattle.dates.specs.Ranges.{stepped, untilLast, goodRange}
 use Rattle.dates.specs.Weeks.{weekShape, weekMeaning, weekItem}
@@ -62,7 +63,7 @@ use Rattle.demands.proofs.Judged.{second-rules}
 use Rattle.demands.proofs.Numbers.{either, next-same, part-cases}
 use Rattle.demands.proofs.Points.{Other, Tells, nothing-tells, pure-tells, here-tells, refuse-tells, branch-tells, then-tells, or-tells, map-tells, if-tells, chain-tells}
 use Rattle.demands.proofs.Points.{many-tells, only-tells, one-tells, ahead-tells, atEnd-tells, skip-tells, byte-tells, allOf-tells, blanks-tells, blank-tells, comma-tells}
-use Rattle.demands.proofs.Points.{number-tells, word-tells, name-tells, OtherMeant, other-if, meant-tells, item-tells, timeItem-tells, offset-tells, weekdayItem-tells}
+use Rattle.demands.proofs.Points.{number-tells, word-tells, name-tells, named-tells, spelled-tells, OtherMeant, other-if, meant-tells, item-tells, timeItem-tells, offset-tells, weekdayItem-tells}
 use Rattle.demands.proofs.Points.{holidayItem-tells}
 
 -- ---- dates
@@ -97,7 +98,7 @@ nth-tells = or-tells (then-tells (byte-tells 45) (λ _. then-tells (number-tells
 
 weekdayOf-tells : (m : ℕ) → Tells (weekdayOf m)
 unfolding weekdayOf
-weekdayOf-tells m = then-tells (name-tells weekday) (λ w. then-tells (byte-tells 91) (λ _. then-tells nth-tells (λ n. then-tells (byte-tells 93) (λ _. pure-tells _))))
+weekdayOf-tells m = then-tells (named-tells weekday) (λ w. then-tells (byte-tells 91) (λ _. then-tells nth-tells (λ n. then-tells (byte-tells 93) (λ _. pure-tells _))))
 
 dayOf-tells : (m : ℕ) → Tells (dayOf m)
 unfolding dayOf
@@ -105,11 +106,11 @@ dayOf-tells m = then-tells blank-tells (λ _. or-tells (then-tells (number-tells
 
 dayAfter-tells : (w : Word) → Tells (dayAfter w)
 unfolding dayAfter
-dayAfter-tells w = if-tells (eqb (w .0) easter) (pure-tells Easter) (if-tells (eqb (w .0) month) (dayOf-tells (w .1)) nothing-tells)
+dayAfter-tells w = if-tells (eqb (w .0) easter) (pure-tells (Easter, false)) (if-tells (eqb (w .0) month) (dayOf-tells (w .1)) nothing-tells)
 
 date-tells : Tells date
 unfolding date
-date-tells = then-tells optionalYear-tells (λ y. then-tells word-tells (λ w. then-tells (dayAfter-tells w) (λ d. pure-tells _)))
+date-tells = then-tells optionalYear-tells (λ y. then-tells spelled-tells (λ w. then-tells (dayAfter-tells (w .0)) (λ d. pure-tells _)))
 
 until-tells : Tells until
 unfolding until untilDate bareDay
@@ -123,9 +124,9 @@ datesAfter-tells : (d : RawDate) → Tells (datesAfter d)
 unfolding datesAfter
 datesAfter-tells d = then-tells offset-tells (λ o. then-tells endShape-tells (λ e. pure-tells _))
 
-monthAfter-tells : (y : Year) (first : ℕ) → Tells (monthAfter y first)
+monthAfter-tells : (y : Year) (first : ℕ × Bool) → Tells (monthAfter y first)
 unfolding monthAfter lastMonth
-monthAfter-tells y first = then-tells (or-tells (then-tells (byte-tells 45) (λ _. name-tells month)) (pure-tells first)) (λ last. pure-tells _)
+monthAfter-tells y first = then-tells (or-tells (then-tells (byte-tells 45) (λ _. named-tells month)) (pure-tells (first .0, false))) (λ last. pure-tells _)
 
 year-other : (r : RawRange) → OtherMeant (yearMeaning r)
 unfolding yearMeaning
@@ -135,20 +136,20 @@ week-other : (r : RawRange) → OtherMeant (weekMeaning r)
 unfolding weekMeaning
 week-other r = other-if (not (goodRange 1 53 r)) _ _ (λ e. omega arith) (other-if (ltb 255 r.step) _ _ (λ e. omega arith) (other-if (ltb r.last r.first) _ _ (λ e. omega arith) tt))
 
-bare-other : (s : Date) (o : DateOffset) (e : ℕ) (p : DateOffset) (d : Day) → OtherMeant (bare s o e p d)
-bare-other s o e p (Fixed m d) = tt
-bare-other s o e p (Weekday m w n) = tt
-bare-other s o e p Easter = λ q. omega arith
+bare-other : (s : Date) (o : DateOffset) (e : ℕ) (p : DateOffset) (x y : Odd) (d : Day) → OtherMeant (bare s o e p x y d)
+bare-other s o e p x y (Fixed m d) = tt
+bare-other s o e p x y (Weekday m w n) = tt
+bare-other s o e p x y Easter = λ q. omega arith
 
-ended-other : (s : Date) (o : DateOffset) (e : RawEnd) → OtherMeant (ended s o e)
-ended-other s o Nothing = tt
-ended-other s o Plus = tt
-ended-other s o (Until e p) = tt
-ended-other s o (Bare e p) = bare-other s o e (offsetOf p) (s .day)
+ended-other : (s : Date) (o : DateOffset) (x : Odd) (e : RawEnd) → OtherMeant (ended s o x e)
+ended-other s o x Nothing = tt
+ended-other s o x Plus = tt
+ended-other s o x (Until e p) = tt
+ended-other s o x (Bare e p) = bare-other s o e (offsetOf p) x (bareOdd p) (s .day)
 
 date-other : (r : RawDates) → OtherMeant (dateMeaning r)
 unfolding dateMeaning
-date-other r = other-if (not (goodDates r)) _ _ (λ e. omega arith) (ended-other (dated (r .date)) (offsetOf (r .offset)) (r .end))
+date-other r = other-if (not (goodDates r)) _ _ (λ e. omega arith) (ended-other (dated (r .date)) (offsetOf (r .offset)) (oddOf (r .date) (r .offset)) (r .end))
 
 month-other : (r : RawMonths) → OtherMeant (monthMeaning r)
 unfolding monthMeaning
@@ -162,21 +163,21 @@ weekItem-tells : Tells weekItem
 unfolding weekItem
 weekItem-tells = item-tells weekShape-tells weekMeaning week-other
 
-dateItemAfter-tells : (p : ℕ) (y : Year) (d : Day) → Tells (dateItemAfter p y d)
+dateItemAfter-tells : (p : ℕ) (y : Year) (odd : Bool) (d : Spelt) → Tells (dateItemAfter p y odd d)
 unfolding dateItemAfter
-dateItemAfter-tells p y d = meant-tells (datesAfter-tells (rawDate y d)) dateMeaning date-other p
+dateItemAfter-tells p y odd d = meant-tells (datesAfter-tells (rawDate y odd d)) dateMeaning date-other p
 
-monthItemAfter-tells : (p : ℕ) (y : Year) (w : Word) → Tells (monthItemAfter p y w)
+monthItemAfter-tells : (p : ℕ) (y : Year) (w : Word × Bool) → Tells (monthItemAfter p y w)
 unfolding monthItemAfter
-monthItemAfter-tells p y w = then-tells (only-tells (eqb (w .0) month)) (λ _. meant-tells (monthAfter-tells y (w .1)) monthMeaning month-other p)
+monthItemAfter-tells p y w = then-tells (only-tells (eqb (w .0 .0) month)) (λ _. meant-tells (monthAfter-tells y (w .0 .1, w .1)) monthMeaning month-other p)
 
-monthDayAfter-tells : (p : ℕ) (y : Year) (w : Word) → Tells (monthDayAfter p y w)
+monthDayAfter-tells : (p : ℕ) (y : Year) (w : Word × Bool) → Tells (monthDayAfter p y w)
 unfolding monthDayAfter
-monthDayAfter-tells p y w = branch-tells (dayAfter-tells w) (dateItemAfter-tells p y) (monthItemAfter-tells p y w)
+monthDayAfter-tells p y w = branch-tells (dayAfter-tells (w .0)) (dateItemAfter-tells p y (w .1)) (monthItemAfter-tells p y w)
 
 monthDayItem-tells : Tells monthDayItem
 unfolding monthDayItem
-monthDayItem-tells = then-tells here-tells (λ p. then-tells optionalYear-tells (λ y. then-tells word-tells (λ w. monthDayAfter-tells p y w)))
+monthDayItem-tells = then-tells here-tells (λ p. then-tells optionalYear-tells (λ y. then-tells spelled-tells (λ w. monthDayAfter-tells p y w)))
 
 -- ---- items
 
@@ -255,7 +256,7 @@ withComment-tells state odd = then-tells (or-tells commentApart-tells (pure-tell
 
 modifier-tells : Tells modifier
 unfolding modifier
-modifier-tells = or-tells (then-tells (name-tells names.modifier) (λ state. withComment-tells state false)) (then-tells comment-tells (λ c. pure-tells _))
+modifier-tells = or-tells (then-tells (named-tells names.modifier) (λ w. withComment-tells (w .0) (w .1))) (then-tells comment-tells (λ c. pure-tells _))
 
 -- ---- rules
 

@@ -12,7 +12,8 @@ use Rattle.names.specs.Tests.{if_then_else_}
 use Rattle.names.specs.Read.{Read, got, none, refused, Reader, follow, nothing, pure, when, one}
 use Rattle.names.specs.Chain.{skip}
 use Rattle.names.specs.Texts.{byte, blank, blanks}
-use Rattle.names.specs.Names.{name, weekday}
+use Rattle.names.specs.Names.{weekday}
+use Rattle.names.specs.Spellings.{named}
 use Rattle.names.specs.Refusals.{range}
 use Rattle.names.specs.declared.Manner.the-variants.{First, Second}
 use Rattle.names.proofs.Laws.{one-is}
@@ -26,7 +27,7 @@ use Rattle.times.specs.Spans.{spanShape, timeItem}
 use Rattle.times.specs.Shapes.{RawSpan, Alone, Open, Until}
 use Rattle.days.specs.Offsets.{plusOrMinus, dayOffset, noDays, anyDays}
 use Rattle.days.specs.Entries.{noMarks}
-use Rattle.days.specs.Weekdays.{rawWeekdays, plain, lastWeekday, bracketed, untilWeekday, withEntries, narrowAfter, wideAfter, weekdayAfter, weekdayShape, weekdayMeaning, weekdayItem}
+use Rattle.days.specs.Weekdays.{Weekday, again, rawWeekdays, plain, lastWeekday, bracketed, untilWeekday, withEntries, narrowAfter, wideAfter, weekdayAfter, weekdayShape, weekdayMeaning, weekdayItem}
 use Rattle.days.specs.declared.RawDays.{RawDays}
 use Rattle.days.specs.declared.RawWeekdays.{RawWeekdays}
 use Rattle.days.specs.declared.Marks.{Marks}
@@ -122,7 +123,7 @@ module _ (s : List ℕ) where
   DeadAfter a j = Dead s j
 
   -- weekdays without entries and days, and what the second edition reads after them
-  plain-wide : (first last j : ℕ) → Wide DeadAfter (got (plain first last) j)
+  plain-wide : (first last : Weekday) (j : ℕ) → Wide DeadAfter (got (plain first last) j)
       (follow s j (follow s j (bracketed s j) pure (pure noMarks)) (λ m. λ s j. follow s j (anyDays s j) (λ d. pure (rawWeekdays first last m d)) nothing) nothing)
   unfolding anyDays
   plain-wide first last j = go (entries-dead j) (offset-dead j)
@@ -133,14 +134,14 @@ module _ (s : List ℕ) where
       go (inl e) (inr d) = lost d
       go (inr d) f = lost d
 
-  after-wide : (first i : ℕ) → Wide DeadAfter (weekdayAfter First first s i) (weekdayAfter Second first s i)
+  after-wide : (first : Weekday) (i : ℕ) → Wide DeadAfter (weekdayAfter First first s i) (weekdayAfter Second first s i)
   unfolding narrowAfter wideAfter untilWeekday withEntries anyDays
   after-wide first i = go (lastWeekday s i) refl
     where
       -- after entries both read days
       days : (m : Marks) (j : ℕ) (r : Read RawDays) →
-          Wide {A = RawWeekdays} DeadAfter (follow s i (follow s j (follow s j r pure (pure noDays)) (λ d. pure (rawWeekdays first first m d)) nothing) pure (pure
-          (plain first first))) (follow s j (follow s j r pure (pure noDays)) (λ d. pure (rawWeekdays first first m d)) nothing)
+          Wide {A = RawWeekdays} DeadAfter (follow s i (follow s j (follow s j r pure (pure noDays)) (λ d. pure (rawWeekdays first (again first) m d)) nothing) pure (pure
+          (plain first (again first)))) (follow s j (follow s j r pure (pure noDays)) (λ d. pure (rawWeekdays first (again first) m d)) nothing)
       days m j (got d k) = same
       days m j none = same
       days m j (refused k p) = same
@@ -151,7 +152,7 @@ module _ (s : List ℕ) where
       alone e none f (inr d) = rw (e, f) (lost d)
       alone e (refused k p) f d = rw (e, f) (lost tt)
 
-      go : (r : Read ℕ) → lastWeekday s i ≡ r → Wide DeadAfter (weekdayAfter First first s i) (weekdayAfter Second first s i)
+      go : (r : Read Weekday) → lastWeekday s i ≡ r → Wide DeadAfter (weekdayAfter First first s i) (weekdayAfter Second first s i)
       go (got last j) e = rw e (plain-wide first last j)
       go none e = alone e (bracketed s i) refl (offset-dead i)
       go (refused k p) e = rw e (lost tt)
@@ -163,7 +164,7 @@ module _ (s : List ℕ) where
 
   shape-wide : (i : ℕ) → Wide DeadAfter (weekdayShape First s i) (weekdayShape Second s i)
   unfolding weekdayShape
-  shape-wide i = wide-then DeadAfter s i (weekdayAfter First) (weekdayAfter Second) (name weekday s i) (λ first j e. after-wide first j)
+  shape-wide i = wide-then DeadAfter s i (weekdayAfter First) (weekdayAfter Second) (named weekday s i) (λ first j e. after-wide first j)
 
   pub weekday-wide : (i : ℕ) → Wide DeadAfter (weekdayItem First s i) (weekdayItem Second s i)
   unfolding weekdayItem

@@ -19,6 +19,7 @@ use Rattle.names.specs.declared.Manner.the-variants.{First, Second}
 use Rattle.names.proofs.Laws.{one-is, inside, within-below}
 use Rattle.names.proofs.Local.{past-one}
 use Rattle.names.proofs.Search.{no-word}
+use Rattle.names.proofs.Odd.{named-none}
 use Rattle.names.proofs.Skips.{skip-stop, skip-sure}
 use Rattle.records.specs.declared.Item.{Item}
 use Rattle.times.specs.Times.{clock, eventWithOffset, rawTime}
@@ -134,7 +135,7 @@ module _ (s : List ℕ) where
 
   no-time : (k : ℕ) → Sign (getD s k 0) → timeItem First s k ≡ none
   unfolding timeItem spanShape rawTime clock eventWithOffset byte
-  no-time k h = rw (no-hour k h, name-none s k event (no-word s k (omega (arith, h .1))), one-is (eqb 40) refl s k refl (ne-eqb 40 (getD s k 0) (λ q. omega (arith, h .0))))
+  no-time k h = rw (no-hour k h, named-none s k event (name-none s k event (no-word s k (omega (arith, h .1)))), one-is (eqb 40) refl s k refl (ne-eqb 40 (getD s k 0) (λ q. omega (arith, h .0))))
 
   -- a blank begins with a byte 32
   blank-byte : (j : ℕ) {k : ℕ} → blank s j ≡ got tt k → getD s j 0 ≡ 32
@@ -184,7 +185,7 @@ module _ (s : List ℕ) where
   no-modifier : (j : ℕ) → Dead s j → afterBlank modifier s j ≡ none
   unfolding modifier comment
   no-modifier j (bracket h) = rw (no-blank j h)
-  no-modifier j (signed k e h) = rw (e, name-none s k names.modifier (no-word s k (omega (arith, h .1))), no-byte 34 k (λ q. omega arith) (λ q. omega (arith, h .0)))
+  no-modifier j (signed k e h) = rw (e, named-none s k names.modifier (name-none s k names.modifier (no-word s k (omega (arith, h .1)))), no-byte 34 k (λ q. omega arith) (λ q. omega (arith, h .0)))
 
   dead-end : (k : Kind) (j : ℕ) → Dead s j → end (After k) s j ≡ got (tailOf 0 noComment false) j
   unfolding end plainEnd
