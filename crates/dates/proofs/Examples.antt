@@ -10,7 +10,7 @@ use Rattle.names.specs.Chain.{chainIn, chain, many, skip}
 use Rattle.names.specs.Texts.{bytes, byte, allOf, blanks, blank}
 use Rattle.names.specs.Numbers.{isDigit, digit, upTo, digits, clockAfter, number}
 use Rattle.names.specs.Names.{names, spelledSo, lower, letter, firstOf, word, name}
-use Rattle.names.specs.Spellings.{allSmall, spellingBy, spelt, warns, odd, named, spelled}
+use Rattle.names.specs.Spellings.{allSmall, wellBegun, wellWritten, warns, odd, named, spelled}
 use Rattle.calendar.specs.Calendar.{leap, lastOfFebruary, hasThirty, lastOf, isDay}
 use Rattle.records.specs.Items.{signed}
 use lib.IntN.{ℤ}
@@ -139,6 +139,6 @@ monthDayTexts =
 month-days-right : map (λ e. monthDayItem (bytes (e .0)) (e .1 .0)) monthDayTexts ≡ map (λ e. e .1 .1) monthDayTexts
 unfolding monthDayTexts months on by moved dates monthDayItem monthDayAfter dateItemAfter monthItemAfter monthAfter lastMonth monthMeaning dateMeaning lastDay bareEnd firstWith goodNth
     monthFrom nextMonth nextYear isDay lastOf lastOfFebruary hasThirty leap datesAfter endShape until bareDay untilDate date dayAfter dayOf weekdayOf nth frontNth backNth
-    optionalYear offset wdayOffset anyDays dayOffset plusOrMinus spelled named odd warns spelt spellingBy allSmall name word firstOf names allOf letter spelledSo lower number
+    optionalYear offset wdayOffset anyDays dayOffset plusOrMinus spelled named odd warns wellWritten wellBegun allSmall name word firstOf names allOf letter spelledSo lower number
     digits upTo digit isDigit within clockAfter skip many chain chainIn blank blanks byte one ahead
 month-days-right = refl

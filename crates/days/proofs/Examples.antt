@@ -10,7 +10,7 @@ use Rattle.names.specs.Texts.{bytes, byte, allOf, blanks, blank}
 use Rattle.names.specs.Numbers.{isDigit, digit, upTo, digits, clockAfter, number}
 use Rattle.names.specs.declared.Manner.the-variants.{First, Second}
 use Rattle.names.specs.Names.{names, spelledSo, lower, letter, firstOf, word, name}
-use Rattle.names.specs.Spellings.{allSmall, spellingBy, spelt, warns, odd, named}
+use Rattle.names.specs.Spellings.{allSmall, wellBegun, wellWritten, warns, odd, named}
 use Rattle.records.specs.Items.{signed}
 use lib.IntN.{ℤ}
 use Rattle.records.specs.declared.Item.{Item}
@@ -38,7 +38,7 @@ weekdays-right :
     (days 0) 31 31 5 ∷ weekdays 1 1 (days 0) 31 31 2 ∷ weekdays 1 1 (days 0) 31 31 2
     ∷ weekdays 1 1 (days 0) 1 0 5 ∷ none ∷ []
 unfolding days weekdays weekdayItem weekdayMeaning flagged weekdayShape narrowAfter withEntries untilWeekday bracketed lastWeekday entries markedAll marked goodEntry setAll
-    nextEntry entry frontEntry backEntry bits anyDays dayOffset plusOrMinus named odd warns spelt spellingBy allSmall name word firstOf names allOf letter spelledSo lower number digits upTo digit
+    nextEntry entry frontEntry backEntry bits anyDays dayOffset plusOrMinus named odd warns wellWritten wellBegun allSmall name word firstOf names allOf letter spelledSo lower number digits upTo digit
     isDigit within clockAfter skip many chain chainIn blank blanks byte one ahead
 weekdays-right = refl
 
@@ -48,7 +48,7 @@ wider-right :
     ≡ weekdays 1 5 (days 1) 1 0 15 ∷ weekdays 1 5 (days 0) 1 0 8 ∷ weekdays 1 5 (signed true 2) 31 31 13 ∷ weekdays 1 1 (days 1) 31 31 9 ∷ weekdays 1 1 (days 1) 1 0 12 ∷ weekdays 1 1 (days 0) 1 0 5
     ∷ weekdays 1 1 (days 0) 31 31 2 ∷ weekdays 6 1 (days 0) 31 31 5 ∷ refused 4 0 ∷ weekdays 1 1 (days 0) 31 31 2 ∷ []
 unfolding days weekdays weekdayItem weekdayMeaning flagged weekdayShape wideAfter bracketed lastWeekday entries markedAll marked goodEntry setAll nextEntry entry frontEntry
-    backEntry bits anyDays dayOffset plusOrMinus named odd warns spelt spellingBy allSmall name word firstOf names allOf letter spelledSo lower number digits upTo digit isDigit
+    backEntry bits anyDays dayOffset plusOrMinus named odd warns wellWritten wellBegun allSmall name word firstOf names allOf letter spelledSo lower number digits upTo digit isDigit
     within clockAfter skip many chain chainIn blank blanks byte one ahead
 wider-right = refl
 

@@ -4,7 +4,7 @@ use Rattle.names.specs.Names.{names, spelledSo, lower, letter, firstOf, word, n
 use Rattle.names.specs.Numbers.{isDigit, digit, upTo, digits, clockAfter, number}
 use Rattle.names.specs.Quotes.{insideOf}
 use Rattle.names.specs.Read.{one, ahead, atEnd}
-use Rattle.names.specs.Spellings.{allSmall, spellingBy, spelt, warns, odd, named, spelled}
+use Rattle.names.specs.Spellings.{allSmall, wellBegun, wellWritten, warns, odd, named, spelled}
 use Rattle.names.specs.Tests.{within}
 use Rattle.names.specs.Texts.{byte, allOf, blanks, blank, comma}
 use Rattle.calendar.specs.Calendar.{leap, lastOfFebruary, hasThirty, lastOf, isDay}
@@ -44,7 +44,7 @@ use Rattle.sheet.specs.Texts.{parted, moreRules, noMore, rules, judgedRules, re
 
 -- nothing, over the line that opens them
 unfoldable pub opened : Unit {0}
-unfolding chainIn chain many skip names spelledSo lower letter firstOf word name isDigit digit upTo digits clockAfter number insideOf one ahead atEnd allSmall spellingBy spelt warns
+unfolding chainIn chain many skip names spelledSo lower letter firstOf word name isDigit digit upTo digits clockAfter number insideOf one ahead atEnd allSmall wellBegun wellWritten warns
     odd named spelled within byte allOf blanks blank comma leap lastOfFebruary hasThirty lastOf isDay wordsOf eventOf spanMeaning repeated tail untilTime spanAfter
     spanShape timeItem eventItemAfter clock withOffset eventWithOffset rawTime backEntry frontEntry entry nextEntry setAll goodEntry marked markedAll entries bits holidayAfter
     holidayShape holidayMeaning holidayItem holidayItemAfter plusOrMinus dayOffset anyDays wdayOffset offset lastWeekday bracketed untilWeekday withEntries narrowAfter wideAfter

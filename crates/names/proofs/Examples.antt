@@ -1,5 +1,7 @@
 -- Worked examples of documents 01 and 03, as the definitions compute them.
 use Prim.Native.Nat.{ℕ}
+use Prim.Native.String.{String}
+use mathlib.Core.Bool.{true, false}
 use mathlib.Core.List.{List, [], _∷_, map}
 use mathlib.Core.Path.{_≡_, refl}
 use Rattle.names.specs.Tests.{within}
@@ -8,8 +10,7 @@ use Rattle.names.specs.Chain.{chainIn, chain, many, skip}
 use Rattle.names.specs.Texts.{bytes, byte, allOf}
 use Rattle.names.specs.Numbers.{isDigit, digit, upTo, digits, clockAfter, number, year, count, ordinal, short, minutes}
 use Rattle.names.specs.Names.{names, spelledSo, lower, letter, firstOf, word, name, weekday, month, event, modifier, holiday, day}
-use Rattle.names.specs.Spellings.{allSmall, spellingBy, spelt}
-use Rattle.names.specs.declared.Spelling.the-variants.{Small, Capital, Other}
+use Rattle.names.specs.Spellings.{allSmall, wellBegun, wellWritten, warns}
 
 -- numbers: their digits, the greatest width taken, and never before `:` and a digit
 numbers : List (Read ℕ)
@@ -35,7 +36,9 @@ words-right : words ≡ none ∷ got 3 6 ∷ got 7 2 ∷ none ∷ got 3 2 ∷ go
 unfolding words name word firstOf names allOf letter spelledSo lower within one
 words-right = refl
 
--- spellings: one capital and then small, all small, or otherwise
-spellings-right : map spelt (bytes "Mo" ∷ bytes "mo" ∷ bytes "MO" ∷ bytes "mO" ∷ bytes "sunset" ∷ bytes "Sunset" ∷ []) ≡ Capital ∷ Small ∷ Other ∷ Other ∷ Small ∷ Capital ∷ []
-unfolding spelt allSmall spellingBy within
-spellings-right = refl
+-- a weekday wants one capital and then small letters, an event small letters alone; `PH` is spelled so
+warnings-right :
+    map (λ (e : ℕ × String). warns (e .0) (bytes (e .1))) ((weekday, "Mo") ∷ (weekday, "mo") ∷ (weekday, "MO") ∷ (weekday, "mO") ∷ (event, "sunset") ∷ (event, "Sunset") ∷ (holiday, "PH") ∷ [])
+    ≡ false ∷ true ∷ true ∷ true ∷ false ∷ true ∷ false ∷ []
+unfolding warns wellWritten wellBegun allSmall spelledSo within
+warnings-right = refl

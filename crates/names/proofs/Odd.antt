@@ -1,17 +1,16 @@
--- How a name is spelt: its letters one by one, its first, and that it depends on nothing but its own bytes.
+-- How a name is written: its letters one by one, and that it depends on nothing but its own bytes.
 use Prim.Native.Nat.{ℕ, zero, suc, _+_, _≤_, _<_}
 use native.Mathlib.Omega.{arith}
 use native.Mathlib.Nat.{suc-add, zero-add}
-use mathlib.Core.Bool.{Bool, true, false}
+use mathlib.Core.Bool.{Bool, true, false, _&&_}
 use mathlib.Core.List.{List, [], _∷_, _++_, append-nil}
 use mathlib.Core.Path.{_≡_, refl, ap, _∙_}
 use lib.ListN.{length, getD, take, drop, length-take, drop-of-length-le}
 use lib.Seq.{slice, slice-cons, take-append-le}
-use Rattle.names.specs.Tests.{if_then_else_, within}
+use Rattle.names.specs.Tests.{within}
 use Rattle.names.specs.Read.{Reader, got, none, pure, _>>=_}
 use Rattle.names.specs.Names.{Word, word, name}
-use Rattle.names.specs.Spellings.{allSmall, spellingBy, spelt, warns, odd, oddFrom, named, spelled}
-use Rattle.names.specs.declared.Spelling.the-variants.{Other}
+use Rattle.names.specs.Spellings.{allSmall, wellBegun, wellWritten, odd, oddFrom, named, spelled}
 use Rattle.names.proofs.Local.{Tail, Stop, Follows, stop-end, stop-at, At, keep, LocalFrom, Local, pure-local, then-local, here-then}
 use Rattle.names.proofs.NameCut.{word-local, name-local}
 
@@ -34,10 +33,10 @@ module _ (s : List ℕ) (i t : ℕ) where
     unfolding allSmall
     small-stop e = rw (slice-cons i t s 0 h k, e)
 
-    -- a name is spelt as its first letter is, where its others are small
-    pub spelt-first : spelt (slice i t s) ≡ (if allSmall (slice (suc i) t s) then spellingBy (getD s i 0) else Other)
-    unfolding spelt
-    spelt-first = rw (slice-cons i t s 0 h k)
+    -- a name is written as its first letter and its others are
+    pub written-first : (kind : ℕ) → wellWritten kind (slice i t s) ≡ (wellBegun kind (getD s i 0) && allSmall (slice (suc i) t s))
+    unfolding wellWritten
+    written-first kind = rw (slice-cons i t s 0 h k)
 
 -- ---- the text s stands after u and before v
 

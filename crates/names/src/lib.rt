@@ -22,8 +22,6 @@ pub use refusals::UNKNOWN_EDITION;
 pub use refusals::WEEK_STEP;
 pub use refusals::WEEKS_INVERTED;
 pub use refusals::YEARS_INVERTED;
-pub use spellings::spelt;
-pub use spellings::warns;
 pub use table::DAY;
 pub use table::EASTER;
 pub use table::EVENT;
@@ -74,11 +72,4 @@ pub enum Named {
 pub enum Spelled {
     Got(u8, u8, bool, Cursor),
     Missing,
-}
-
-// How a name is written: all small, one capital and then small, or otherwise.
-pub enum Spelling {
-    Small,
-    Capital,
-    Other,
 }

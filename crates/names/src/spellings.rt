@@ -1,9 +1,8 @@
-// How a name is written, and whether that calls for a warning.
+// How a name should be written; where it is not, it calls for a warning.
 ghost use Prim.Native.Nat.{_≤_, _<_};
 ghost use mathlib.Core.Path.{_≡_};
 ghost use lib.ListN.{length};
 ghost use lib.Seq.{slice};
-ghost use Rattle.names.specs.Tests.{if_then_else_};
 ghost use Rattle.names.specs.Spellings as spellings;
 ghost use Rattle.names.specs.Seen.{ReadsName, seenSpelled};
 use crate::Cursor;
@@ -11,45 +10,17 @@ use crate::HOLIDAY;
 use crate::MONTH;
 use crate::Named;
 use crate::Spelled;
-use crate::Spelling;
 use crate::Word;
 use crate::tests::byte_within;
 
-// How a name with this first letter is written, where its others are small.
-fn spelling_by(b: u8) -> Spelling
-    ensures { λ r. ⌜ r ≡ spellings.spellingBy b ⌝ }
+// Whether a name of this kind should begin so: a weekday or a month with a capital, an event, a modifier or `easter` with a small letter.
+fn well_begun(kind: u8, b: u8) -> bool
+    ensures { λ r. ⌜ r ≡ spellings.wellBegun kind b ⌝ }
 {
-    if byte_within(b'a', b'z', b) {
-        return Spelling::Small;
-    }
-    if byte_within(b'A', b'Z', b) {
-        return Spelling::Capital;
-    }
-    Spelling::Other
-}
-
-// How a name with this first letter is written, whether its others are small or not.
-pub fn spelt(first: u8, small: bool) -> Spelling
-    ensures { λ r. ⌜ r ≡ (if small then spellings.spellingBy first else Spelling.Other) ⌝ }
-{
-    if small {
-        spelling_by(first)
+    if kind <= MONTH {
+        byte_within(b'A', b'Z', b)
     } else {
-        Spelling::Other
-    }
-}
-
-// A warning for each weekday or month name not capitalised, and each event, modifier or `easter` not all small.
-pub fn warns(kind: u8, w: Spelling) -> bool
-    ensures { λ r. ⌜ r ≡ spellings.warns kind w ⌝ }
-{
-    if HOLIDAY <= kind {
-        return false;
-    }
-    match w {
-        Spelling::Small => kind <= MONTH,
-        Spelling::Capital => MONTH < kind,
-        Spelling::Other => true,
+        byte_within(b'a', b'z', b)
     }
 }
 
@@ -76,9 +47,15 @@ impl Cursor {
         requires { ⌜ to .at ≤ length (now s) ⌝ }
         ensures { λ r. ⌜ r ≡ spellings.odd kind (now (s .entry)) (self .at) (to .at) ⌝ }
     {
+        if HOLIDAY <= kind {
+            return false;
+        }
         let at = self.at;
-        let small = all_small(s, at + 1, to.at);
-        warns(kind, spelt(s[at], small))
+        if well_begun(kind, s[at]) {
+            !all_small(s, at + 1, to.at)
+        } else {
+            true
+        }
     }
 
     // A name of this kind: which one, and whether it calls for a warning.

@@ -77,11 +77,11 @@ pub struct DateSpan {
 pub struct WeekDayRange {
     pub first: u8,
     pub last: u8,
+    pub odd_first: bool,
+    pub odd_last: bool,
     pub days: i16,
     pub starts: u8,
     pub ends: u8,
-    pub odd_first: bool,
-    pub odd_last: bool,
 }
 
 // A holiday, 1 public, 2 school, and a number of days.

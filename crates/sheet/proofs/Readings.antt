@@ -152,16 +152,41 @@ module _ (m : Manner) (s : List ℕ) (p : ℕ) where
         let room : length rs * 16 ≤ length (t .0) = rw (k .many) at h in
         rw (k .many, k .all, all-laid asWords (λ x. x .0) (λ _ _ _. refl) rs t 0 (omega arith)) (records-back rs (t .0) (records-sixteen (k .list)) room)
 
-    module _ (size : ℕ) where
-      -- more records than a table of so many words has room for
-      pub text-full : size / 16 < n → (refusal 10 p .0, u) ≡ into u (textOf m s p size)
+    module _ (room : ℕ) where
+      -- more records than there is room for
+      pub text-full : room < n → (refusal 10 p .0, u) ≡ into u (textOf m s p (room * 16))
       unfolding textOf allKept
-      text-full h = let g : size / 16 < length (records (k .list)) = omega (arith, h, k .many) in rw (k .is, lt-ltb _ _ g)
+      text-full h = let g : room * 16 / 16 < length (records (k .list)) = omega (arith, h, k .many) in rw (k .is, lt-ltb _ _ g)
 
       -- the text is accepted
-      pub text-accepted : n ≤ size / 16 → (answerOf 0 0 n w, allKept u 0 (records (k .list))) ≡ into u (textOf m s p size)
+      pub text-accepted : n ≤ room → (answerOf 0 0 n w, allKept u 0 (records (k .list))) ≡ into u (textOf m s p (room * 16))
       unfolding textOf
-      text-accepted h = let g : length (records (k .list)) ≤ size / 16 = omega (arith, h, k .many) in rw (k .is, le-ltb _ _ g, k .many, k .warned)
+      text-accepted h = let g : length (records (k .list)) ≤ room * 16 / 16 = omega (arith, h, k .many) in rw (k .is, le-ltb _ _ g, k .many, k .warned)
+
+-- ---- only a table's whole groups of 16 words count
+
+abbrev whole : ℕ → ℕ
+whole n = n / 16 * 16
+
+groups : (n : ℕ) → whole n / 16 ≡ n / 16
+groups n = omega arith
+
+text-whole : (m : Manner) (s : List ℕ) (p n : ℕ) → textOf m s p (whole n) ≡ textOf m s p n
+unfolding textOf
+text-whole m s p n = go (judgedRules m s p)
+  where
+    go : (x : Read (List Rule × Unit {0})) → judgedText p (whole n) x ≡ judgedText p n x
+    go (got l j) = rw (groups n)
+    go none = refl
+    go (refused k q) = refl
+
+pub sheet-whole : (m : Manner) (s : List ℕ) (n : ℕ) → sheetBy m s (whole n) ≡ sheetBy m s n
+unfolding sheetBy
+sheet-whole m s n = rw (text-whole m s 0 n)
+
+pub part-whole : (m : Manner) (s : List ℕ) (p n : ℕ) → partBy m s p (whole n) ≡ partBy m s p n
+unfolding partBy
+part-whole m s p n = rw (text-whole m (take (partEnd s p) s) p n)
 
 -- ---- sheets and parts
 

@@ -1,4 +1,5 @@
 // Reading a part.
+ghost use Prim.Native.Nat.{_*_};
 ghost use mathlib.Core.Path.{_≡_};
 ghost use Rattle.sheet.specs.PartReadings as parts;
 ghost use Rattle.sheet.specs.Editions as editions;
@@ -48,23 +49,23 @@ fn part_refusal(number: u8) -> PartAnswer
     part_answer_of(refusal(number, 0), 0, true)
 }
 
-// The part that begins at a place is read into both tables, if a table of `size` words has room for its records.
+// The part that begins at a place is read into both tables, if there is room for its records.
 fn part_into(
     sheet: &[u8],
     m: Manner,
     place: usize,
-    size: usize,
+    room: usize,
     words: &mut [i32],
     bytes: &mut [u8],
 ) -> PartAnswer
-    ensures { λ r. ⌜ (r, (now (words .exit), now (bytes .exit))) ≡ into (now (words .entry), now (bytes .entry)) (parts.partBy m (now (sheet .entry)) place size) ⌝ }
+    ensures { λ r. ⌜ (r, (now (words .exit), now (bytes .exit))) ≡ into (now (words .entry), now (bytes .entry)) (parts.partBy m (now (sheet .entry)) place (room * 16)) ⌝ }
 {
     if 4096 < sheet.len() {
         return part_refusal(TOO_LONG);
     }
     if begins(sheet, place) {
         let e = part_end(sheet, place);
-        let a = read_text(&sheet[..e], m, place, size, words, bytes);
+        let a = read_text(&sheet[..e], m, place, room, words, bytes);
         with_next(sheet, e, a)
     } else {
         part_refusal(NO_PART)
@@ -76,7 +77,7 @@ pub fn part_words(sheet: &[u8], m: Manner, place: usize, table: &mut [i32]) -> P
     ensures { λ r. ⌜ (r, now (table .exit)) ≡ parts.partReadingBy m (now (sheet .entry)) place (now (table .entry)) ⌝ }
 {
     let mut none = [0u8; 0];
-    part_into(sheet, m, place, table.len(), table, &mut none)
+    part_into(sheet, m, place, table.len() / 16, table, &mut none)
 }
 
 // The part that begins at a place is read into a table of bytes, in a manner.
@@ -84,7 +85,7 @@ pub fn part_bytes(sheet: &[u8], m: Manner, place: usize, table: &mut [u8]) -> Pa
     ensures { λ r. ⌜ (r, now (table .exit)) ≡ parts.partReadingBytesBy m (now (sheet .entry)) place (now (table .entry)) ⌝ }
 {
     let mut none = [0i32; 0];
-    part_into(sheet, m, place, table.len() / 64 * 16, &mut none, table)
+    part_into(sheet, m, place, table.len() / 64, &mut none, table)
 }
 
 // The part that begins at a place is read into a table of words.

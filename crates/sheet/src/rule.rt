@@ -56,10 +56,10 @@ fn fill_pieces(
         match piece {
             Piece::Item(a, p, kind, d) => {
                 n += 1;
-                warned += warnings_in(a) as usize;
                 spot = Spot::after(d, kind);
                 judged = judged.item(m, a, p);
                 keep_item(words, bytes, slot + n, a, p);
+                warned += warnings_in(a) as usize;
             }
             Piece::End(t, d) => {
                 let head = head_of(place, separator, t, wide, n, warned);

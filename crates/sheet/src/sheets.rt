@@ -55,25 +55,25 @@ fn put_records(from: &[i32], n: usize, words: &mut [i32], bytes: &mut [u8])
     }
 }
 
-// The text from place p on to the end of s is read into both tables, if a table of `size` words has room for its records.
+// The text from place p on to the end of s is read into both tables, if there is room for its records.
 // They are kept in a table of our own until they are counted; more than it holds are read again.
 pub fn read_text(
     s: &[u8],
     m: Manner,
     p: usize,
-    size: usize,
+    room: usize,
     words: &mut [i32],
     bytes: &mut [u8],
 ) -> Answer
     requires { ⌜ length (now s) ≤ 4096 ⌝ }
-    ensures { λ r. ⌜ (r, (now (words .exit), now (bytes .exit))) ≡ into (now (words .entry), now (bytes .entry)) (sheets.textOf m (now (s .entry)) p size) ⌝ }
+    ensures { λ r. ⌜ (r, (now (words .exit), now (bytes .exit))) ≡ into (now (words .entry), now (bytes .entry)) (sheets.textOf m (now (s .entry)) p (room * 16)) ⌝ }
 {
     let mut few = [0i32; FEW * 16];
     let mut none = [0u8; 0];
     let counted = fill_rules(s, m, p, &mut few, &mut none);
     match counted {
         Counted::Got(n, warnings, _) => {
-            if size / 16 < n {
+            if room < n {
                 return refusal(NO_ROOM, p);
             }
             if FEW < n {
@@ -92,20 +92,20 @@ pub fn read_text(
     }
 }
 
-// A sheet is read into both tables, if a table of `size` words has room for its records: one of over 4,096 bytes is not read.
+// A sheet is read into both tables, if there is room for its records: one of over 4,096 bytes is not read.
 pub fn sheet_into(
     sheet: &[u8],
     m: Manner,
-    size: usize,
+    room: usize,
     words: &mut [i32],
     bytes: &mut [u8],
 ) -> Answer
-    ensures { λ r. ⌜ (r, (now (words .exit), now (bytes .exit))) ≡ into (now (words .entry), now (bytes .entry)) (sheets.sheetBy m (now (sheet .entry)) size) ⌝ }
+    ensures { λ r. ⌜ (r, (now (words .exit), now (bytes .exit))) ≡ into (now (words .entry), now (bytes .entry)) (sheets.sheetBy m (now (sheet .entry)) (room * 16)) ⌝ }
 {
     if 4096 < sheet.len() {
         return refusal(TOO_LONG, 0);
     }
-    read_text(sheet, m, 0, size, words, bytes)
+    read_text(sheet, m, 0, room, words, bytes)
 }
 
 // A sheet is read into a table of words, in a manner.
@@ -113,7 +113,7 @@ pub fn sheet_words(sheet: &[u8], m: Manner, table: &mut [i32]) -> Answer
     ensures { λ r. ⌜ (r, now (table .exit)) ≡ sheets.sheetReadingBy m (now (sheet .entry)) (now (table .entry)) ⌝ }
 {
     let mut none = [0u8; 0];
-    sheet_into(sheet, m, table.len(), table, &mut none)
+    sheet_into(sheet, m, table.len() / 16, table, &mut none)
 }
 
 // A sheet is read into a table of bytes, in a manner.
@@ -121,7 +121,7 @@ pub fn sheet_bytes(sheet: &[u8], m: Manner, table: &mut [u8]) -> Answer
     ensures { λ r. ⌜ (r, now (table .exit)) ≡ sheets.sheetReadingBytesBy m (now (sheet .entry)) (now (table .entry)) ⌝ }
 {
     let mut none = [0i32; 0];
-    sheet_into(sheet, m, table.len() / 64 * 16, &mut none, table)
+    sheet_into(sheet, m, table.len() / 64, &mut none, table)
 }
 
 // A sheet is read into a table of words.

@@ -11,7 +11,7 @@ use Rattle.names.specs.Texts.{bytes, byte, allOf}
 use Rattle.names.specs.Numbers.{isDigit, digit, upTo, digits, clockAfter, number}
 use Rattle.names.specs.declared.Manner.the-variants.{First, Second}
 use Rattle.names.specs.Names.{names, spelledSo, lower, letter, firstOf, word, name}
-use Rattle.names.specs.Spellings.{allSmall, spellingBy, spelt, warns, odd, named}
+use Rattle.names.specs.Spellings.{allSmall, wellBegun, wellWritten, warns, odd, named}
 use Rattle.records.specs.Items.{signed}
 use Rattle.records.specs.declared.Item.{Item}
 use Rattle.records.specs.declared.Item.the-variants.{Times}
@@ -58,7 +58,7 @@ spans =
 
 spans-right : map (λ e. timeItem First (bytes (e .0)) (e .1 .0)) spans ≡ map (λ e. e .1 .1) spans
 unfolding spans span timeItem spanShape spanAfter untilTime tail repeated rawTime eventWithOffset withOffset clock eventOf spanMeaning
-    number digits upTo digit isDigit within clockAfter skip many chain chainIn byte one ahead named odd warns spelt spellingBy allSmall name word firstOf names allOf letter spelledSo lower
+    number digits upTo digit isDigit within clockAfter skip many chain chainIn byte one ahead named odd warns wellWritten wellBegun allSmall name word firstOf names allOf letter spelledSo lower
 spans-right = refl
 
 -- the second edition: a time alone, a span written out that is none, and what a time alone does not have
@@ -74,5 +74,5 @@ points =
 
 points-right : map (λ e. timeItem Second (bytes (e .0)) 0) points ≡ map (λ e. e .1) points
 unfolding points point span timeItem spanShape spanAfter untilTime tail repeated rawTime eventWithOffset withOffset clock eventOf spanMeaning
-    number digits upTo digit isDigit within clockAfter skip many chain chainIn byte one ahead named odd warns spelt spellingBy allSmall name word firstOf names allOf letter spelledSo lower
+    number digits upTo digit isDigit within clockAfter skip many chain chainIn byte one ahead named odd warns wellWritten wellBegun allSmall name word firstOf names allOf letter spelledSo lower
 points-right = refl

@@ -1,6 +1,8 @@
 use borrow.Author.Needs.{needs}
 use denote.Ref.{now}
 use Rattle.sheet.specs.Sheets.{sheetOf}
+use Rattle.names.specs.declared.Manner.the-variants.{First}
+use Rattle.sheet.proofs.Readings.{sheet-whole}
 use Rattle.feed.proofs.Readings.{line-from}
 use Rattle.feed.proofs.feeds.line_into.Statement.{statement}
 use Rattle.feed.proofs.feeds.line_into.Tie as tie
@@ -27,4 +29,4 @@ line-into-spec =
     let free-words = free-bytes .before in
     let a = free-words .before .before .before .args in
     line-from (now (a .words)) (now (a .bytes)) (a .slot) (free-words .free-from .result) (free-bytes .free-from2 .result) (sheetOf (now (a .line)) (a .size))
-    (free-words .free-from .ensures) (free-bytes .free-from2 .ensures) (read .sheet-into .ensures)))  -- returns
+    (free-words .free-from .ensures) (free-bytes .free-from2 .ensures) (rw (sheet-whole First (now (a .line)) (a .size)) at (read .sheet-into .ensures))))  -- returns

@@ -13,7 +13,6 @@ unfolding partReadingBytesBy
 part-bytes-spec =
     tie.close
     (tie.spec
-    (λ c. search needs)  -- mul-part-into
     (λ c. search needs)  -- slice-aggregate-part-into
     (λ c κs. search needs)  -- part-into-requires
     (λ c. search needs)  -- same-length

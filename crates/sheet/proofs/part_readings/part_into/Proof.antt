@@ -1,4 +1,4 @@
-use Prim.Native.Nat.{_≤_}
+use Prim.Native.Nat.{_*_, _≤_}
 use borrow.Author.Needs.{needs}
 use native.Mathlib.Omega.{arith}
 use mathlib.Core.Bool.{true}
@@ -39,7 +39,7 @@ part-into-spec =
     let a = c .before .before .before .before .args in
     let tables : Tables = (now (a .words), now (a .bytes)) in
     let too-long = c .before .if1 .taken in
-    ap (λ r. (r, tables)) (c .part-refusal .ensures) ∙ part-long (a .m) tables (now (a .sheet)) (a .place) (a .size) too-long)  -- returns
+    ap (λ r. (r, tables)) (c .part-refusal .ensures) ∙ part-long (a .m) tables (now (a .sheet)) (a .place) (a .room * 16) too-long)  -- returns
     (λ c κs. search needs)  -- begins-requires
     (λ c κs. search needs)  -- part-end-requires
     (λ c. let ended = c .before in sym (length-take-le (ended .part-end .result) (now (start ended .args .sheet)) (stays ended)))  -- slice-aggregate-read-text
@@ -56,10 +56,10 @@ part-into-spec =
     let fits = ended .before .before .before .if1 .left in
     let its-text = rw (ended .part-end .ensures) at (read .read-text .ensures) in
     rw (c .with-next .ensures, ended .part-end .ensures)
-    (part-text (a .m) (now (a .words), now (a .bytes)) (now (a .sheet)) (a .place) (a .size) fits (the-part ended) its-text))  -- returns-2
+    (part-text (a .m) (now (a .words), now (a .bytes)) (now (a .sheet)) (a .place) (a .room * 16) fits (the-part ended) its-text))  -- returns-2
     (λ c.
     let a = c .before .before .before .before .before .before .args in
     let tables : Tables = (now (a .words), now (a .bytes)) in
     let fits = c .before .before .before .if1 .left in
     let no-part = sym (c .before .before .begins .ensures) ∙ c .before .if2 .left in
-    ap (λ r. (r, tables)) (c .part-refusal2 .ensures) ∙ part-nowhere (a .m) tables (now (a .sheet)) (a .place) (a .size) fits no-part))  -- returns-3
+    ap (λ r. (r, tables)) (c .part-refusal2 .ensures) ∙ part-nowhere (a .m) tables (now (a .sheet)) (a .place) (a .room * 16) fits no-part))  -- returns-3

@@ -77,20 +77,20 @@ fill-pieces-spec =
     (λ c κs. search needs)  -- piece-requires
     (λ c. search needs)  -- enum-known-piece
     (λ c. omega (arith, past-one (more-local _ _) (more-is (c .before)), c .before .before .before .before .loop .inv .low))  -- add-n
-    (λ c κs. search needs)  -- warnings-in-requires
-    (λ c. search needs)  -- cast-warned
-    (λ c. let m = c .before .before in let l = m .before .before .before in let z = l .before .before .before .before .before in
-    omega (arith, c .warnings-in .ensures, item-warnings-few (m .piece2 .given .0 .0), l .loop .inv .mild, l .loop .inv .few, z .pre .0))  -- add-warned
     (λ c κs. search needs)  -- after-requires
     (λ c κs. search needs)  -- item-requires
-    (λ c. let m = c .before .before .before .before .before .before in let l = m .before .before .before in let z = l .before .before .before .before .before in
+    (λ c. let m = c .before .before .before .before .before in let l = m .before .before .before in let z = l .before .before .before .before .before in
     omega (arith, past-one (more-local _ _) (more-is m), l .loop .inv .few, z .pre .0, z .pre .1))  -- add-keep-item
-    (λ c κs. let m = c .before .before .before .before .before .before in let l = m .before .before .before in let z = l .before .before .before .before .before in
+    (λ c κs. let m = c .before .before .before .before .before in let l = m .before .before .before in let z = l .before .before .before .before .before in
     omega (arith, item-placed _ _ _ _ (more-is m), z .pre .0))  -- keep-item-requires
-    (λ c. let a = c .before .before .before .before .before .before .before in omega (arith, past-one (more-local _ _) (more-is (a .before .before .before)), a .after .ensures .1))  -- loop-less
-    (λ c. let k = c .before .before .before in let i = k .before .before .before in let a = i .before in let w = a .before in let m = w .before .before in
+    (λ c κs. search needs)  -- warnings-in-requires
+    (λ c. search needs)  -- cast-warned
+    (λ c. let k = c .before .before .before .before in let m = k .before .before .before .before .before .before in let l = m .before .before .before in let z = l .before .before .before .before .before in
+    omega (arith, c .warnings-in .ensures, item-warnings-few (m .piece2 .given .0 .0), l .loop .inv .mild, l .loop .inv .few, z .pre .0))  -- add-warned
+    (λ c. let k = c .before .before .before .before in let a = k .before .before .before .before in omega (arith, past-one (more-local _ _) (more-is (a .before .before)), a .after .ensures .1))  -- loop-less
+    (λ c. let k = c .before .before .before .before in let i = k .before .before .before in let a = i .before in let m = a .before .before in
     let l = m .before .before .before in
-    rw (k .keep-item .ensures, i .item .ensures, a .after .ensures .0, a .after .ensures .1, w .warnings-in .ensures)
+    rw (k .keep-item .ensures, i .item .ensures, a .after .ensures .0, a .after .ensures .1, c .warnings-in .ensures)
     (turn-more _ _ _ _ _ _ _ _ _ (l .loop .words, l .loop .bytes) (l .loop .judged) (l .loop .n) (l .loop .warned) (l .loop .spot .stage) (l .loop .spot .at) (l .loop .inv)
     (more-is m)))  -- loop-again
     (λ c. search needs)  -- enum-known-piece-2

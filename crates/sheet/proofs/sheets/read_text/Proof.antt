@@ -1,4 +1,5 @@
 -- What was kept and put into the tables, or read again, is what they are to have.
+use Prim.Native.Nat.{_*_}
 use borrow.Author.Needs.{needs}
 use native.Mathlib.Omega.{arith}
 use mathlib.Core.List.{[]}
@@ -36,7 +37,7 @@ read-text-spec =
     (λ c κs. search needs)  -- refusal-requires
     (λ c. let k = c .before .before .before in let f = k .before .before .before .before in let a = f .before .before .before .before .before .args in
     let u : Tables = (now (a .words), now (a .bytes)) in
-    ap (λ r. (r, u)) (c .refusal .ensures) ∙ text-full (a .m) (now (a .s)) (a .p) empty (own f) u (many k) (a .size) (c .before .if1 .taken))  -- returns
+    ap (λ r. (r, u)) (c .refusal .ensures) ∙ text-full (a .m) (now (a .s)) (a .p) empty (own f) u (many k) (a .room) (c .before .if1 .taken))  -- returns
     (λ c κs. search needs)  -- fill-rules-requires-2
     (λ c. search needs)  -- slice-aggregate-put-records
     (λ c κs. search needs)  -- put-records-requires
@@ -47,13 +48,13 @@ read-text-spec =
     (λ c. let g = c .before .before .before in let i = g .before .before .before .before in let k = i .before .before in let f = k .before .before .before .before in
     let a = f .before .before .before .before .before .args in let u : Tables = (now (a .words), now (a .bytes)) in
     rw (again (a .m) (now (a .s)) (a .p) empty (own f) u (many k) (g .fill-rules2 .result) (g .fill-rules2 .ensures))
-    (text-accepted (a .m) (now (a .s)) (a .p) empty (own f) u (many k) (a .size) (i .if1 .left)))  -- returns-2
+    (text-accepted (a .m) (now (a .s)) (a .p) empty (own f) u (many k) (a .room) (i .if1 .left)))  -- returns-2
     (λ c. c .before .before .words2 .given)  -- same-length-3
     (λ c. c .before .bytes2 .given)  -- same-length-4
     (λ c. let g = c .before .before .before in let e = g .before .before .before .before in let i = e .before in let k = i .before .before in let f = k .before .before .before .before in
     let a = f .before .before .before .before .before .args in let u : Tables = (now (a .words), now (a .bytes)) in
     rw (g .put-records .ensures, taken (a .m) (now (a .s)) (a .p) empty (own f) u (many k) (omega (arith, e .if2 .left)))
-    (text-accepted (a .m) (now (a .s)) (a .p) empty (own f) u (many k) (a .size) (i .if1 .left)))  -- returns-3
+    (text-accepted (a .m) (now (a .s)) (a .p) empty (own f) u (many k) (a .room) (i .if1 .left)))  -- returns-3
     (λ c. let k = c .before .before in let f = k .before .before .before .before in let a = f .before .before .before .before .before .args in let u : Tables = (now (a .words), now (a .bytes)) in
-    ap (λ r. (r, u)) (c .refusal2 .ensures) ∙ text-refused (a .m) (now (a .s)) (a .p) empty u (a .size) (f .fill-rules .ensures
+    ap (λ r. (r, u)) (c .refusal2 .ensures) ∙ text-refused (a .m) (now (a .s)) (a .p) empty u (a .room * 16) (f .fill-rules .ensures
     ∙ ap (λ (r : Counted). seenRulesInto r (own f)) (k .counted2 .given .1))))  -- returns-4

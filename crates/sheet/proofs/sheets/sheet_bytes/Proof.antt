@@ -12,7 +12,6 @@ unfolding sheetReadingBytesBy
 sheet-bytes-spec =
     tie.close
     (tie.spec
-    (λ c. search needs)  -- mul-sheet-into
     (λ c. search needs)  -- slice-aggregate-sheet-into
     (λ c κs. search needs)  -- sheet-into-requires
     (λ c. search needs)  -- same-length

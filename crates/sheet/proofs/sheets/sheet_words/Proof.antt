@@ -3,7 +3,7 @@ use mathlib.Core.List.{[]}
 use denote.Ref.{now}
 use lib.ListN.{length}
 use Rattle.sheet.specs.Sheets.{sheetBy, sheetReadingBy}
-use Rattle.sheet.proofs.Readings.{sheet-held, into-words}
+use Rattle.sheet.proofs.Readings.{sheet-held, sheet-whole, into-words}
 use Rattle.sheet.proofs.sheets.sheet_words.Statement.{statement}
 use Rattle.sheet.proofs.sheets.sheet_words.Tie as tie
 
@@ -16,4 +16,4 @@ sheet-words-spec =
     (λ c κs. search needs)  -- sheet-into-requires
     (λ c. search needs)  -- same-length
     (λ c. let r = c .before .before in let a = r .before .before .before .before .args in let n = (length (now (a .table))) in
-    into-words (now (a .table), []) (sheetBy (a .m) (now (a .sheet)) n) (sheet-held (a .m) (now (a .sheet)) n) (r .sheet-into .ensures)))  -- returns
+    into-words (now (a .table), []) (sheetBy (a .m) (now (a .sheet)) n) (sheet-held (a .m) (now (a .sheet)) n) (rw (sheet-whole (a .m) (now (a .sheet)) n) at (r .sheet-into .ensures))))  -- returns
