@@ -47,7 +47,8 @@ unfolding dayOf weekdayOf
 day-of m h = then-finds (any blank) (λ _ _. or-finds (then-finds (any short) (λ d _. pure-finds (Fixed m d, false) h)) of-weekday)
   where
     of-weekday : Finds OfYear (weekdayOf m)
-    of-weekday = then-finds (any (named weekday)) (λ w _. then-finds (any (sign "[")) (λ _ _. then-finds (any nth) (λ n _. then-finds (any (sign "]")) (λ _ _. pure-finds (Weekday m (w .0) n, w .1) tt))))
+    of-weekday = then-finds (any (named weekday)) (λ w _.
+        then-finds (any (sign "[")) (λ _ _. then-finds (any nth) (λ n _. then-finds (any (sign "]")) (λ _ _. pure-finds (Weekday m (w .0) n, w .1) tt))))
 
 day-after : (w : Word) → monthRange w ≡ true → Finds OfYear (dayAfter w)
 unfolding dayAfter

@@ -19,7 +19,8 @@ use Rattle.records.specs.declared.Meant.the-variants.{Is, Refused}
 use Rattle.records.proofs.Cut.{Alike, Refuses, refuses-if, item-alike}
 use Rattle.days.specs.Offsets.{plusOrMinus, dayOffset, noDays, anyDays, wdayOffset, offset, goodDays, daysOf}
 use Rattle.days.specs.Entries.{backEntry, frontEntry, entry, nextEntry, noMarks, entries, bits}
-use Rattle.days.specs.Weekdays.{Weekday, again, lastWeekday, bracketed, untilWeekday, withEntries, narrowAfter, wideAfter, weekdayAfter, weekdayShape, weekdaysOf, flagged, weekdayMeaning, weekdayItem}
+use Rattle.days.specs.Weekdays.{Weekday, again, lastWeekday, bracketed, untilWeekday, withEntries, narrowAfter, wideAfter, weekdayAfter, weekdayShape, weekdaysOf, flagged}
+use Rattle.days.specs.Weekdays.{weekdayMeaning, weekdayItem}
 use Rattle.days.specs.Holidays.{holidayAfter, holidayShape, holidayMeaning, holidayItem}
 use Rattle.days.specs.declared.RawWeekdays.{RawWeekdays}
 use Rattle.days.specs.declared.RawHoliday.{RawHoliday}
@@ -93,7 +94,8 @@ module _ {u : List ℕ} where
   unfolding wideAfter
   weekdayAfter-alike First first = narrowAfter-alike first
   weekdayAfter-alike House first = narrowAfter-alike first
-  weekdayAfter-alike Second first = then-local (maybe-local lastWeekday-alike (again first)) (λ last. then-local (maybe-local bracketed-alike noMarks) (λ m. then-local anyDays-alike (λ d. pure-local _)))
+  weekdayAfter-alike Second first = then-local (maybe-local lastWeekday-alike (again first)) (λ last.
+      then-local (maybe-local bracketed-alike noMarks) (λ m. then-local anyDays-alike (λ d. pure-local _)))
 
   pub weekdayShape-alike : (m : Manner) → Alike u 1 (weekdayShape m)
   unfolding weekdayShape

@@ -307,7 +307,8 @@ bracketed-tells = then-tells (byte-tells 91) (λ _. then-tells entries-tells (λ
 
 wideAfter-tells : (first : Weekday) → Tells (wideAfter first)
 unfolding wideAfter
-wideAfter-tells first = then-tells (or-tells lastWeekday-tells (pure-tells (again first))) (λ last. then-tells (or-tells bracketed-tells (pure-tells _)) (λ m. then-tells anyDays-tells (λ d. pure-tells _)))
+wideAfter-tells first = then-tells (or-tells lastWeekday-tells (pure-tells (again first))) (λ last.
+    then-tells (or-tells bracketed-tells (pure-tells _)) (λ m. then-tells anyDays-tells (λ d. pure-tells _)))
 
 weekdayShape-tells : Tells (weekdayShape Second)
 unfolding weekdayShape

@@ -63,7 +63,8 @@ use Rattle.demands.proofs.Judged.{second-rules}
 use Rattle.demands.proofs.Numbers.{either, next-same, part-cases}
 use Rattle.demands.proofs.Points.{Other, Tells, nothing-tells, pure-tells, here-tells, refuse-tells, branch-tells, then-tells, or-tells, map-tells, if-tells, chain-tells}
 use Rattle.demands.proofs.Points.{many-tells, only-tells, one-tells, ahead-tells, atEnd-tells, skip-tells, byte-tells, allOf-tells, blanks-tells, blank-tells, comma-tells}
-use Rattle.demands.proofs.Points.{number-tells, word-tells, name-tells, named-tells, spelled-tells, OtherMeant, other-if, meant-tells, item-tells, timeItem-tells, offset-tells, weekdayItem-tells}
+use Rattle.demands.proofs.Points.{number-tells, word-tells, name-tells, named-tells, spelled-tells, OtherMeant, other-if, meant-tells, item-tells, timeItem-tells}
+use Rattle.demands.proofs.Points.{offset-tells, weekdayItem-tells}
 use Rattle.demands.proofs.Points.{holidayItem-tells}
 
 -- ---- dates

@@ -35,7 +35,13 @@ fn line_into(line: &[u8], size: usize, words: &mut [i32], bytes: &mut [u8], slot
 {
     let w = free_from(words.len(), 16, slot);
     let b = free_from(bytes.len(), 64, slot);
-    sheet_into(line, Manner::First, size / 16, &mut words[w..], &mut bytes[b..])
+    sheet_into(
+        line,
+        Manner::First,
+        size / 16,
+        &mut words[w..],
+        &mut bytes[b..],
+    )
 }
 
 // The lines of a feed are read one after another, each into what a table of `size` words still has room for.

@@ -64,11 +64,13 @@ module _ {Q : Tail} {u : List ℕ} {a : Bool} where
 module _ {u : List ℕ} where
   pub named-local : (kind : ℕ) → Local Stop keep u false false 1 (named kind) (named kind)
   unfolding named
-  named-local kind = let f : ℕ → Reader (ℕ × Bool) = λ p. name kind >>= λ v. oddFrom kind p >>= λ o. pure (v, o) in here-then f f (λ p. then-local (name-local kind) (λ v. then-local (odd-local kind p) (λ o. pure-local (v, o))))
+  named-local kind = let f : ℕ → Reader (ℕ × Bool) = λ p. name kind >>= λ v. oddFrom kind p >>= λ o. pure (v, o) in
+      here-then f f (λ p. then-local (name-local kind) (λ v. then-local (odd-local kind p) (λ o. pure-local (v, o))))
 
   pub spelled-local : Local Stop keep u false false 1 spelled spelled
   unfolding spelled
-  spelled-local = let f : ℕ → Reader (Word × Bool) = λ p. word >>= λ w. oddFrom (w .0) p >>= λ o. pure (w, o) in here-then f f (λ p. then-local word-local (λ w. then-local (odd-local (w .0) p) (λ o. pure-local (w, o))))
+  spelled-local = let f : ℕ → Reader (Word × Bool) = λ p. word >>= λ w. oddFrom (w .0) p >>= λ o. pure (w, o) in
+      here-then f f (λ p. then-local word-local (λ w. then-local (odd-local (w .0) p) (λ o. pure-local (w, o))))
 
 -- ---- where a name is known
 

@@ -16,4 +16,5 @@ part-words-spec =
     (λ c κs. search needs)  -- part-into-requires
     (λ c. search needs)  -- same-length
     (λ c. let r = c .before .before in let a = r .before .before .before .before .args in let n = (length (now (a .table))) in
-    into-words (now (a .table), []) (partBy (a .m) (now (a .sheet)) (a .place) n) (part-held (a .m) (now (a .sheet)) (a .place) n) (rw (part-whole (a .m) (now (a .sheet)) (a .place) n) at (r .part-into .ensures))))  -- returns
+    into-words (now (a .table), []) (partBy (a .m) (now (a .sheet)) (a .place) n) (part-held (a .m) (now (a .sheet)) (a .place) n)
+    (rw (part-whole (a .m) (now (a .sheet)) (a .place) n) at (r .part-into .ensures))))  -- returns

@@ -85,9 +85,11 @@ fill-pieces-spec =
     omega (arith, item-placed _ _ _ _ (more-is m), z .pre .0))  -- keep-item-requires
     (λ c κs. search needs)  -- warnings-in-requires
     (λ c. search needs)  -- cast-warned
-    (λ c. let k = c .before .before .before .before in let m = k .before .before .before .before .before .before in let l = m .before .before .before in let z = l .before .before .before .before .before in
+    (λ c. let k = c .before .before .before .before in let m = k .before .before .before .before .before .before in let l = m .before .before .before in
+    let z = l .before .before .before .before .before in
     omega (arith, c .warnings-in .ensures, item-warnings-few (m .piece2 .given .0 .0), l .loop .inv .mild, l .loop .inv .few, z .pre .0))  -- add-warned
-    (λ c. let k = c .before .before .before .before in let a = k .before .before .before .before in omega (arith, past-one (more-local _ _) (more-is (a .before .before)), a .after .ensures .1))  -- loop-less
+    (λ c. let k = c .before .before .before .before in let a = k .before .before .before .before in
+    omega (arith, past-one (more-local _ _) (more-is (a .before .before)), a .after .ensures .1))  -- loop-less
     (λ c. let k = c .before .before .before .before in let i = k .before .before .before in let a = i .before in let m = a .before .before in
     let l = m .before .before .before in
     rw (k .keep-item .ensures, i .item .ensures, a .after .ensures .0, a .after .ensures .1, c .warnings-in .ensures)
