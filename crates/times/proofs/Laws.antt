@@ -45,7 +45,7 @@ withOffset-minus e s i {j} p q = rw (p, q) (sun-is e true s j (clock s j))
 -- a start in range is in range as an end
 pub start-end : (t : RawTime) → goodStart t ≡ true → goodEnd t ≡ true
 start-end (Fixed c) good = le-leb c nextMidnight (omega (arith, leb-true c midnight good))
-start-end (Sun e negative c odd) good = good
+start-end (Sun c e negative odd) good = good
 
 -- where three tests pass, the first two do
 first-two : (a b c : Bool) → (a && b && c) ≡ true → (a ≡ true) × (b ≡ true)
@@ -58,5 +58,5 @@ pub both-ends : (a b : RawTime) (t : RawTail) → goodSpan (Until a b t) ≡ tru
 both-ends a b t good = let g = first-two _ _ _ good in (start-end a (g .0), g .1)
 
 -- an event's minutes in range fit an i16
-pub sun-small : (t : RawTime) {e : ℕ} {negative odd : Bool} {c : ℕ} → goodEnd t ≡ true → t ≡ Sun e negative c odd → c ≤ 32767
+pub sun-small : (t : RawTime) {e : ℕ} {negative odd : Bool} {c : ℕ} → goodEnd t ≡ true → t ≡ Sun c e negative odd → c ≤ 32767
 sun-small t {c = c} good is = omega (arith, leb-true c midnight (sym (ap goodEnd is) ∙ good))

@@ -34,12 +34,12 @@ nextMidnight = 2880
 -- a start in range: hour 0 to 23 with 24:00 besides, so up to 24:00; the same for what is added to an event, or taken off
 abbrev pub goodStart : RawTime → Bool
 goodStart (Fixed c) = leb c midnight
-goodStart (Sun e negative c odd) = leb c midnight
+goodStart (Sun c e negative odd) = leb c midnight
 
 -- an end in range: a clock time up to 48:00, an event as at the start
 abbrev pub goodEnd : RawTime → Bool
 goodEnd (Fixed c) = leb c nextMidnight
-goodEnd (Sun e negative c odd) = leb c midnight
+goodEnd (Sun c e negative odd) = leb c midnight
 
 -- a tail in range: MM 0 to 59, hour 0 to 23, so below 24:00
 abbrev pub goodTail : RawTail → Bool
@@ -61,12 +61,12 @@ eventOf e m = if eqb e 1 then time.Dawn m else if eqb e 2 then time.Sunrise m el
 -- a clock time in minutes, or an event with minutes added or taken off
 abbrev pub timeOf : RawTime → Time
 timeOf (Fixed c) = time.Fixed c
-timeOf (Sun e negative c odd) = eventOf e (signed negative c)
+timeOf (Sun c e negative odd) = eventOf e (signed negative c)
 
 -- whether the name of a time's event calls for a warning
 abbrev pub isOdd : RawTime → Bool
 isOdd (Fixed c) = false
-isOdd (Sun e negative c odd) = odd
+isOdd (Sun c e negative odd) = odd
 
 -- the repeat
 abbrev pub repeatOf : RawTail → Repeat

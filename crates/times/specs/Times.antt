@@ -37,7 +37,7 @@ Event = ℕ × Bool
 
 -- an event with minutes added to it, or taken off
 abbrev pub sun : Event → Bool → ℕ → RawTime
-sun e negative c = Sun (e .0) negative c (e .1)
+sun e negative c = Sun c (e .0) negative (e .1)
 
 -- an event as it stands
 abbrev pub eventAlone : Event → RawTime

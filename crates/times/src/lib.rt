@@ -7,10 +7,10 @@ use names::Cursor;
 pub use spans::event_item_after;
 pub use spans::time_item;
 
-// A time as it is read: a clock time in minutes; or an event with minutes added to it, or taken off where the first flag is set, and whether its name calls for a warning.
+// A time as it is read, its minutes first: a clock time; or an event, by its number, with the minutes added to it, or taken off where the first flag is set, and whether its name calls for a warning.
 pub enum RawTime {
     Fixed(u16),
-    Sun(u8, bool, u16, bool),
+    Sun(u16, u8, bool, bool),
 }
 
 // What stands after a span's end, as it is read: nothing, a plus, or a repeat in minutes, `/MM` or `/H:MM`.

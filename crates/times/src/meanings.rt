@@ -29,7 +29,7 @@ fn good_start(t: RawTime) -> bool
 {
     match t {
         RawTime::Fixed(c) => c <= MIDNIGHT,
-        RawTime::Sun(_, _, c, _) => c <= MIDNIGHT,
+        RawTime::Sun(c, _, _, _) => c <= MIDNIGHT,
     }
 }
 
@@ -39,7 +39,7 @@ fn good_end(t: RawTime) -> bool
 {
     match t {
         RawTime::Fixed(c) => c <= NEXT_MIDNIGHT,
-        RawTime::Sun(_, _, c, _) => c <= MIDNIGHT,
+        RawTime::Sun(c, _, _, _) => c <= MIDNIGHT,
     }
 }
 
@@ -89,7 +89,7 @@ fn time_of(t: RawTime) -> Time
 {
     match t {
         RawTime::Fixed(c) => Time::Fixed(c),
-        RawTime::Sun(e, negative, c, _) => event_of(e, signed(negative, c)),
+        RawTime::Sun(c, e, negative, _) => event_of(e, signed(negative, c)),
     }
 }
 

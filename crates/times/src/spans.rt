@@ -124,5 +124,5 @@ pub fn event_item_after(s: &[u8], m: Manner, p: usize, c: Cursor, event: u8) -> 
     ensures { λ r. ⌜ spans.eventItemAfter m p event (now (s .entry)) (c .at) ≡ seenItem r ⌝ }
 {
     let odd = Cursor { at: p }.odd(s, EVENT, c);
-    span_item_after(s, m, p, c, RawTime::Sun(event, false, 0, odd))
+    span_item_after(s, m, p, c, RawTime::Sun(0, event, false, odd))
 }

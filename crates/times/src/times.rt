@@ -47,7 +47,7 @@ fn sun(event: u8, odd: bool, negative: bool, time: ClockRead) -> TimeRead
     ensures { λ r. ⌜ times.sunOf (event, odd) negative (seenClock time) ≡ seenTime r ⌝ }
 {
     match time {
-        ClockRead::Got(t, c) => TimeRead::Got(RawTime::Sun(event, negative, t, odd), c),
+        ClockRead::Got(t, c) => TimeRead::Got(RawTime::Sun(t, event, negative, odd), c),
         ClockRead::Missing => TimeRead::Missing,
     }
 }
@@ -96,7 +96,7 @@ pub fn event_time(s: &[u8], c: Cursor) -> TimeRead
 {
     let name = c.named(s, EVENT);
     if let Named::Got(event, odd, e) = name {
-        return TimeRead::Got(RawTime::Sun(event, false, 0, odd), e);
+        return TimeRead::Got(RawTime::Sun(0, event, false, odd), e);
     }
     event_with_offset(s, c)
 }
