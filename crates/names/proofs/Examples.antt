@@ -40,5 +40,5 @@ words-right = refl
 warnings-right :
     map (λ (e : ℕ × String). warns (e .0) (bytes (e .1))) ((weekday, "Mo") ∷ (weekday, "mo") ∷ (weekday, "MO") ∷ (weekday, "mO") ∷ (event, "sunset") ∷ (event, "Sunset") ∷ (holiday, "PH") ∷ [])
     ≡ false ∷ true ∷ true ∷ true ∷ false ∷ true ∷ false ∷ []
-unfolding warns wellWritten wellBegun allSmall spelledSo within
+unfolding warns wellWritten wellBegun allSmall spelledSo
 warnings-right = refl

@@ -16,6 +16,7 @@ pub mod Rows
 pub mod Search
 pub mod Lists
 pub mod Longest
+pub mod Letters
 pub mod Odd
 pub mod OneAnswer
 pub mod Examples

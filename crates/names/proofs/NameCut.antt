@@ -1,16 +1,20 @@
 -- The search for a name depends on nothing before its place and nothing from a `;` outside quotes on.
-use Prim.Native.Nat.{ℕ}
-use mathlib.Core.List.{List, [], _∷_}
+use Prim.Native.Nat.{ℕ, _-_, _≤_}
+use mathlib.Core.List.{List, [], _∷_, append-nil}
 use mathlib.Core.Bool.{Bool, true, false, not, _&&_, and-eq-true-iff}
-use mathlib.Core.Path.{_≡_, refl}
+use mathlib.Core.Path.{_≡_, refl, ap, _∙_}
 use native.Mathlib.Omega.{arith}
+use native.Mathlib.Nat.{add-zero}
 use lib.Dec.{eqb, leb}
-use lib.ListN.{length}
+use lib.ListN.{length, take, drop, take-append-drop}
+use lib.Seq.{length-take-le}
+use borrow.Rule.Slice.PartAt.{part-to-end}
 use borrow.Author.Tests.{not-true, leb-true}
 use Rattle.names.specs.Tests.{within}
+use Rattle.names.specs.Read.{Read}
 use Rattle.names.specs.Texts.{allOf}
-use Rattle.names.specs.Names.{Row, names, spelledSo, lower, letter, firstOf, word, name}
-use Rattle.names.proofs.Local.{Stop, keep, Local, loose, nothing-local, pure-local, branch-local, bind-local, then-local, only-local, one-local}
+use Rattle.names.specs.Names.{Row, Word, names, spelledSo, lower, letter, firstOf, word, name}
+use Rattle.names.proofs.Local.{Stop, stop-end, moved, keep, Local, loose, nothing-local, pure-local, branch-local, bind-local, then-local, only-local, one-local}
 
 -- neither a quote nor a `;` counts as one of these letters
 unfoldable pub plain : (ℕ → ℕ) → List ℕ → Bool
@@ -49,3 +53,8 @@ word-local = firstOf-local names names-plain
 pub name-local : {u : List ℕ} (k : ℕ) → Local Stop keep u false false 1 (name k) (name k)
 unfolding name
 name-local k = then-local word-local (λ w. then-local (only-local (eqb (w .0) k)) (λ _. pure-local (w .1)))
+
+-- the name at a place is the one with which the rest of the text begins
+module _ (s : List ℕ) (n : ℕ) {r : Read Word} (h : n ≤ length s) (e : word (take (length s - n) (drop n s)) 0 ≡ r) where
+  pub word-rest : word s n ≡ moved keep n r
+  word-rest = rw (append-nil, take-append-drop, length-take-le n s h, add-zero) at (word-local {u = take n s} .same (drop n s) [] 0 stop-end tt) ∙ ap (moved keep n) (rw (part-to-end s n) at e)

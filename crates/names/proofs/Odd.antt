@@ -7,10 +7,9 @@ use mathlib.Core.List.{List, [], _∷_, _++_, append-nil}
 use mathlib.Core.Path.{_≡_, refl, ap, _∙_}
 use lib.ListN.{length, getD, take, drop, length-take, drop-of-length-le}
 use lib.Seq.{slice, slice-cons, take-append-le}
-use Rattle.names.specs.Tests.{within}
 use Rattle.names.specs.Read.{Reader, got, none, pure, _>>=_}
 use Rattle.names.specs.Names.{Word, word, name}
-use Rattle.names.specs.Spellings.{allSmall, wellBegun, wellWritten, odd, oddFrom, named, spelled}
+use Rattle.names.specs.Spellings.{isSmall, allSmall, wellBegun, wellWritten, odd, oddFrom, named, spelled}
 use Rattle.names.proofs.Local.{Tail, Stop, Follows, stop-end, stop-at, At, keep, LocalFrom, Local, pure-local, then-local, here-then}
 use Rattle.names.proofs.NameCut.{word-local, name-local}
 
@@ -24,12 +23,12 @@ module _ (s : List ℕ) (i t : ℕ) where
 
   module _ (h : i < t) (k : t ≤ length s) where
     -- a small letter, and those after it
-    pub small-more : within 97 122 (getD s i 0) ≡ true → allSmall (slice i t s) ≡ allSmall (slice (suc i) t s)
+    pub small-more : isSmall (getD s i 0) ≡ true → allSmall (slice i t s) ≡ allSmall (slice (suc i) t s)
     unfolding allSmall
     small-more e = rw (slice-cons i t s 0 h k, e)
 
     -- another byte
-    pub small-stop : within 97 122 (getD s i 0) ≡ false → allSmall (slice i t s) ≡ false
+    pub small-stop : isSmall (getD s i 0) ≡ false → allSmall (slice i t s) ≡ false
     unfolding allSmall
     small-stop e = rw (slice-cons i t s 0 h k, e)
 

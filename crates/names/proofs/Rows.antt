@@ -1,11 +1,11 @@
 -- What holds of each name of the table.
-use Prim.Native.Nat.{ℕ, _≤_}
+use Prim.Native.Nat.{ℕ, _≤_, _<_}
 use mathlib.Core.Bool.{Bool, true, false, _&&_, true≢false, and-eq-true-iff}
 use mathlib.Core.List.{List, [], _∷_}
 use mathlib.Core.Path.{_≡_, refl, sym, _∙_}
 use native.Mathlib.Omega.{arith}
-use borrow.Author.Tests.{leb-true}
-use lib.Dec.{leb}
+use borrow.Author.Tests.{leb-true, ltb-true}
+use lib.Dec.{leb, ltb}
 use lib.ListN.{length}
 use Rattle.names.specs.Tests.{if_then_else_, within}
 use Rattle.names.specs.Names.{Row, names, spelledSo}
@@ -36,28 +36,25 @@ pub plain-split : (kind x : ℕ) (xs : List ℕ) → plain kind (x ∷ xs) ≡ t
 unfolding plain
 plain-split kind x xs e = let h = and-eq-true-iff (is-letter kind x) (plain kind xs) .0 e in (letter-is kind x (h .0), h .1)
 
--- a name has letters, and a value up to 12
-unfoldable pub good : Row → Bool
-good r = leb 1 (length (r .0)) && (plain (r .1 .0) (r .0) && leb (r .1 .1) 12)
-
+-- so is each letter of these names
 unfoldable pub all-good : List Row → Bool
 all-good [] = true
-all-good (r ∷ rs) = good r && all-good rs
+all-good (r ∷ rs) = plain (r .1 .0) (r .0) && all-good rs
 
 pub names-good : all-good names ≡ true
-unfolding all-good good plain is-letter names within spelledSo
+unfolding all-good plain is-letter names within spelledSo
 names-good = refl
 
-pub record Good (r : Row) : Type 0 where
-  pub some : 1 ≤ length (r .0)
-  pub letters : plain (r .1 .0) (r .0) ≡ true
-  pub value : r .1 .1 ≤ 12
-
 -- the first and the others
-pub good-split : (r : Row) (rs : List Row) → all-good (r ∷ rs) ≡ true → Good r × (all-good rs ≡ true)
-unfolding all-good good
-good-split r rs e =
-    let h = and-eq-true-iff (good r) (all-good rs) .0 e in
-    let g = and-eq-true-iff (leb 1 (length (r .0))) (plain (r .1 .0) (r .0) && leb (r .1 .1) 12) .0 (h .0) in
-    let l = and-eq-true-iff (plain (r .1 .0) (r .0)) (leb (r .1 .1) 12) .0 (g .1) in
-    (record { some = leb-true _ _ (g .0); letters = l .0; value = leb-true _ _ (l .1) }, h .1)
+pub good-split : (r : Row) (rs : List Row) → all-good (r ∷ rs) ≡ true → (plain (r .1 .0) (r .0) ≡ true) × (all-good rs ≡ true)
+unfolding all-good
+good-split r rs e = and-eq-true-iff (plain (r .1 .0) (r .0)) (all-good rs) .0 e
+
+-- each of these names has more than k letters
+unfoldable pub longer : ℕ → List Row → Bool
+longer k [] = true
+longer k (r ∷ rs) = ltb k (length (r .0)) && longer k rs
+
+pub longer-split : (k : ℕ) (r : Row) (rs : List Row) → longer k (r ∷ rs) ≡ true → (k < length (r .0)) × (longer k rs ≡ true)
+unfolding longer
+longer-split k r rs e = let h = and-eq-true-iff (ltb k (length (r .0))) (longer k rs) .0 e in (ltb-true k (length (r .0)) (h .0), h .1)

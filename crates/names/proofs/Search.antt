@@ -1,6 +1,6 @@
 -- The search for the longest name: the names one after another, letter by letter, compared as the code compares.
-use Prim.Native.Nat.{ℕ, _+_, _≤_, _<_}
-use mathlib.Core.Bool.{Bool, true, false, _&&_, and-eq-true-iff}
+use Prim.Native.Nat.{ℕ, zero, suc, _+_, _≤_, _<_}
+use mathlib.Core.Bool.{Bool, true, false, _&&_, and-false, and-eq-true-iff}
 use mathlib.Core.List.{List, [], _∷_, _++_}
 use mathlib.Core.Logic.{_↔_}
 use mathlib.Core.Path.{_≡_, refl, sym, _∙_}
@@ -13,15 +13,15 @@ use lib.ListN.{length, getD}
 use Rattle.names.specs.Tests.{if_then_else_, within}
 use Rattle.names.specs.Read.{Read, got, none, refused, follow, nothing, pure, when}
 use Rattle.names.specs.Texts.{allOf}
-use Rattle.names.specs.Names.{Row, Word, month, seven, six, four, three, two, names, spelledSo, lower, letter, firstOf, word}
+use Rattle.names.specs.Names.{Row, Word, month, seven, six, four, three, two, fourOrMore, threeOrMore, names, spelledSo, lower, letter, firstOf, word}
 use Rattle.names.specs.Table.{fold, compared, stand, firstIn, orElse}
 use Rattle.names.proofs.Found as value
 use Rattle.names.proofs.Laws.{one-is, within-below}
 use Rattle.names.proofs.Folds.{tells}
-use Rattle.names.proofs.Rows.{Letter, plain, plain-split, all-good, names-good, good-split}
+use Rattle.names.proofs.Rows.{Letter, plain, plain-split, all-good, names-good, good-split, longer, longer-split}
 
 -- the comparison tells a letter of a name as the definition does
-alike : (kind b x : ℕ) → Letter kind x → (compared kind b ≡ x) ↔ (letter kind b ≡ x)
+pub alike : (kind b x : ℕ) → Letter kind x → (compared kind b ≡ x) ↔ (letter kind b ≡ x)
 unfolding compared letter
 alike kind b x l = go (spelledSo kind) refl
   where
@@ -65,6 +65,15 @@ module _ (s : List ℕ) where
       go true q = let z : i + 1 + length xs ≡ i + length (x ∷ xs) = omega arith in q ∙ rw (z)
       go false q = refl
 
+  -- letters do not stand where one of their bytes is below the letters
+  stand-below : (kind : ℕ) (xs : List ℕ) → plain kind xs ≡ true → (k i : ℕ) → k < length xs → getD s (i + k) 0 < 65 → stand kind xs s i ≡ false
+  unfolding stand
+  stand-below kind [] e k i l h = absurd (omega arith)
+  stand-below kind (x ∷ xs) e zero i l h = let p = plain-split kind x xs e in
+      rw (sym (same-test kind (getD s i 0) x (p .0)), no-letter kind (getD s i 0) x (p .0) (rw (add-zero i) at h))
+  stand-below kind (x ∷ xs) e (suc k) i l h = let z : i + 1 + k ≡ i + suc k = omega arith in
+      rw (stand-below kind xs (plain-split kind x xs e .1) k (i + 1) (omega arith) (rw z h), and-false)
+
   module _ (i : ℕ) where
     -- the first of some names, as the definition finds it
     pub first-is : (rs : List Row) → all-good rs ≡ true → firstOf rs s i ≡ firstIn rs s i
@@ -72,7 +81,7 @@ module _ (s : List ℕ) where
     first-is [] e = refl
     first-is (r ∷ rs) e =
         let g = good-split r rs e in
-        rw (stand-is (r .1 .0) (r .0) (g .0 .letters) i) (go (stand (r .1 .0) (r .0) s i) (first-is rs (g .1)))
+        rw (stand-is (r .1 .0) (r .0) (g .0) i) (go (stand (r .1 .0) (r .0) s i) (first-is rs (g .1)))
       where
         go : (t : Bool) → firstOf rs s i ≡ firstIn rs s i →
             follow s i (when t (got (tt {0}) (i + length (r .0)))) (λ _. pure (r .1)) (firstOf rs) ≡ (if t then got (r .1) (i + length (r .0)) else firstIn rs s i)
@@ -103,28 +112,29 @@ module _ (s : List ℕ) where
     pub and-more : {rs : List Row} {v w : Read Word} → Says rs v → (qs : List Row) → all-good qs ≡ true → orElse v (firstIn qs s i) ≡ w → Says (rs ++ qs) w
     and-more {rs} e qs g h = record { is = first-append rs qs ∙ rw (e .is, first-is qs g) h }
 
-    -- the longest name, group after group
-    pub by-groups : word s i ≡ orElse (orElse (orElse (orElse (firstOf seven s i) (firstOf six s i)) (firstOf four s i)) (firstOf three s i)) (firstOf two s i)
+    -- the groups from the longest names on, and the next
+    pub four-or-more : firstOf fourOrMore s i ≡ orElse (orElse (firstOf seven s i) (firstOf six s i)) (firstOf four s i)
+    four-or-more = first-append (seven ++ six) four ∙ rw (first-append seven six)
+
+    pub three-or-more : firstOf threeOrMore s i ≡ orElse (firstOf fourOrMore s i) (firstOf three s i)
+    three-or-more = first-append fourOrMore three
+
+    pub two-or-more : word s i ≡ orElse (firstOf threeOrMore s i) (firstOf two s i)
     unfolding word names
-    by-groups = first-append (seven ++ six ++ four ++ three) two ∙ rw (first-append (seven ++ six ++ four) three, first-append (seven ++ six) four, first-append seven six)
+    two-or-more = first-append threeOrMore two
+
+    -- no name of more than k letters stands where the byte k after its place is below the letters
+    module _ (k : ℕ) (h : getD s (i + k) 0 < 65) where
+      pub none-first : (rs : List Row) → longer k rs ≡ true → all-good rs ≡ true → firstOf rs s i ≡ none
+      unfolding firstOf
+      none-first [] l e = refl
+      none-first (r ∷ rs) l e = let g = good-split r rs e in let m = longer-split k r rs l in
+          rw (stand-is (r .1 .0) (r .0) (g .0) i, stand-below (r .1 .0) (r .0) (g .0) k i (m .0) h) (none-first rs (m .1) (g .1))
 
     -- no name begins with a byte below the letters
-    module _ (h : getD s i 0 < 65) where
-      below-letters : (kind : ℕ) (xs : List ℕ) → 1 ≤ length xs → plain kind xs ≡ true → allOf (letter kind) xs s i ≡ none
-      unfolding allOf
-      below-letters kind [] l e = absurd (omega arith)
-      below-letters kind (x ∷ xs) l e =
-          let p = plain-split kind x xs e in
-          rw (one-is (λ c. eqb (letter kind c) x) (no-letter kind 0 x (p .0) (omega arith)) s i refl (no-letter kind (getD s i 0) x (p .0) h))
-
-      none-first : (rs : List Row) → all-good rs ≡ true → firstOf rs s i ≡ none
-      unfolding firstOf
-      none-first [] e = refl
-      none-first (r ∷ rs) e = let g = good-split r rs e in rw (below-letters (r .1 .0) (r .0) (g .0 .some) (g .0 .letters)) (none-first rs (g .1))
-
-      pub no-word : word s i ≡ none
-      unfolding word
-      no-word = none-first names names-good
+    pub no-word : getD s i 0 < 65 → word s i ≡ none
+    unfolding word longer names
+    no-word h = none-first 0 (rw (add-zero i) h) names refl names-good
 
 -- where a name stands, its first byte is no digit and no sign
 pub word-letter : (s : List ℕ) (i : ℕ) {v : Word} {j : ℕ} → word s i ≡ got v j → 65 ≤ getD s i 0

@@ -7,6 +7,7 @@ pub mod Numbers
 pub mod Names
 pub mod Longest
 pub mod Spellings
+pub mod Letters
 pub mod Table
 pub mod Seen
 pub mod Refusals

@@ -62,7 +62,9 @@ four =
 -- of three letters
 abbrev pub three : List Row
 three =
-    (bytes "jan", (month, 1))
+    (bytes "off", (modifier, 1))
+    ∷ (bytes "day", (day, 0))
+    ∷ (bytes "jan", (month, 1))
     ∷ (bytes "feb", (month, 2))
     ∷ (bytes "mar", (month, 3))
     ∷ (bytes "apr", (month, 4))
@@ -74,8 +76,6 @@ three =
     ∷ (bytes "oct", (month, 10))
     ∷ (bytes "nov", (month, 11))
     ∷ (bytes "dec", (month, 12))
-    ∷ (bytes "off", (modifier, 1))
-    ∷ (bytes "day", (day, 0))
     ∷ []
 
 -- of two letters
@@ -91,6 +91,14 @@ two =
     ∷ (bytes "PH", (holiday, 1))
     ∷ (bytes "SH", (holiday, 2))
     ∷ []
+
+-- of four letters or more
+abbrev pub fourOrMore : List Row
+fourOrMore = seven ++ six ++ four
+
+-- of three letters or more
+abbrev pub threeOrMore : List Row
+threeOrMore = seven ++ six ++ four ++ three
 
 -- the names by their length, the longest first
 unfoldable pub names : List Row

@@ -11,27 +11,33 @@ use crate::MONTH;
 use crate::Named;
 use crate::Spelled;
 use crate::Word;
-use crate::tests::byte_within;
+
+// Whether a letter is small: the capitals come before `a`.
+fn is_small(b: u8) -> bool
+    ensures { λ r. ⌜ r ≡ spellings.isSmall b ⌝ }
+{
+    b'a' <= b
+}
 
 // Whether a name of this kind should begin so: a weekday or a month with a capital, an event, a modifier or `easter` with a small letter.
 fn well_begun(kind: u8, b: u8) -> bool
     ensures { λ r. ⌜ r ≡ spellings.wellBegun kind b ⌝ }
 {
     if kind <= MONTH {
-        byte_within(b'A', b'Z', b)
+        !is_small(b)
     } else {
-        byte_within(b'a', b'z', b)
+        is_small(b)
     }
 }
 
-// Whether the bytes from a place to another are small letters.
+// Whether the letters from a place to another are small.
 fn all_small(s: &[u8], from: usize, to: usize) -> bool
     requires { ⌜ to ≤ length (now s) ⌝ }
     ensures { λ r. ⌜ r ≡ spellings.allSmall (slice from to (now (s .entry))) ⌝ }
 {
     let mut i = from;
     while i < to {
-        if byte_within(b'a', b'z', s[i]) {
+        if is_small(s[i]) {
             i += 1;
         } else {
             return false;

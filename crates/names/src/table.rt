@@ -108,9 +108,9 @@ impl Cursor {
     {
         let months = b"jan feb mar apr may jun jul aug sep oct nov dec";
         let w = Word::Missing;
-        let w = self.or_one_of(w, s, 3, MONTH, 1, months);
         let w = self.or_one_of(w, s, 3, MODIFIER, 1, b"off");
-        self.or_one_of(w, s, 3, DAY, 0, b"day")
+        let w = self.or_one_of(w, s, 3, DAY, 0, b"day");
+        self.or_one_of(w, s, 3, MONTH, 1, months)
     }
 
     // Names of two letters.
@@ -123,12 +123,12 @@ impl Cursor {
         self.or_one_of(w, s, 2, HOLIDAY, 1, b"PH SH")
     }
 
-    // The longest name that stands here: the search goes from the longest names to the shortest, and stops at the name it has found.
-    pub fn word(self, s: &[u8]) -> Word
-        ensures { λ r. ⌜ names.word (now (s .entry)) (self .at) ≡ seenWord r ⌝ }
+    // The longest name of four letters or more. None stands where the fourth byte is a digit or a sign.
+    fn four_or_more(self, s: &[u8]) -> Word
+        requires { ⌜ self .at < length (now s) ⌝ }
+        ensures { λ r. ⌜ names.firstOf names.fourOrMore (now (s .entry)) (self .at) ≡ seenWord r ⌝ }
     {
-        // No name begins with a digit or a sign, nor at the text's end.
-        if self.byte(s) < b'A' {
+        if (Cursor { at: self.at + 3 }).byte(s) < b'A' {
             return Word::Missing;
         }
         let w = self.seven(s);
@@ -139,15 +139,50 @@ impl Cursor {
         let Word::Missing = w else {
             return w;
         };
-        let w = self.four(s);
+        self.four(s)
+    }
+
+    // The longest name of three letters or more. None stands where the third byte is a digit or a sign.
+    fn three_or_more(self, s: &[u8]) -> Word
+        requires { ⌜ self .at < length (now s) ⌝ }
+        ensures { λ r. ⌜ names.firstOf names.threeOrMore (now (s .entry)) (self .at) ≡ seenWord r ⌝ }
+    {
+        if (Cursor { at: self.at + 2 }).byte(s) < b'A' {
+            return Word::Missing;
+        }
+        let w = self.four_or_more(s);
         let Word::Missing = w else {
             return w;
         };
-        let w = self.three(s);
+        self.three(s)
+    }
+
+    // The longest name of any length: the search goes from the longest names to the shortest, and stops at the name it has found.
+    fn two_or_more(self, s: &[u8]) -> Word
+        requires { ⌜ self .at < length (now s) ⌝ }
+        ensures { λ r. ⌜ names.word (now (s .entry)) (self .at) ≡ seenWord r ⌝ }
+    {
+        let w = self.three_or_more(s);
         let Word::Missing = w else {
             return w;
         };
         self.two(s)
+    }
+
+    // The longest name that stands here. The search has the rest of the text alone: it needs no place then, and takes less work.
+    pub fn word(self, s: &[u8]) -> Word
+        ensures { λ r. ⌜ names.word (now (s .entry)) (self .at) ≡ seenWord r ⌝ }
+    {
+        let at = self.at;
+        // No name begins with a digit or a sign, nor at the text's end.
+        if self.byte(s) < b'A' {
+            return Word::Missing;
+        }
+        let w = Cursor { at: 0 }.two_or_more(&s[at..]);
+        match w {
+            Word::Got(kind, value, c) => Word::Got(kind, value, Cursor { at: at + c.at }),
+            Word::Missing => Word::Missing,
+        }
     }
 
     // A name of this kind: which one.

@@ -23,15 +23,13 @@ impl Cursor {
         ensures { λ r. ⌜ texts.byte b (now (s .entry)) (self .at) ≡ seenStep r ⌝ }
     {
         let at = self.at;
-        if at < s.len() {
-            if b == s[at] {
-                Step::Got(Cursor { at: at + 1 })
-            } else {
-                Step::Missing
-            }
-        } else {
-            Step::Missing
+        if s.len() <= at {
+            return Step::Missing;
         }
+        if b != s[at] {
+            return Step::Missing;
+        }
+        Step::Got(Cursor { at: at + 1 })
     }
 
     // The place after bytes from lo to hi, as many as there are.

@@ -4,7 +4,7 @@ use mathlib.Core.Path.{refl}
 use Rattle.names.specs.Tests.{within}
 use Rattle.names.specs.Names.{spelledSo}
 use Rattle.names.specs.Table.{rowsIn, rows}
-use Rattle.names.proofs.Rows.{is-letter, plain, good, all-good}
+use Rattle.names.proofs.Rows.{is-letter, plain, all-good}
 use Rattle.names.proofs.Search.{begun, and-more}
 use Rattle.names.proofs.Cursor.four.Statement.{statement}
 use Rattle.names.proofs.Cursor.four.Tie as tie
@@ -23,7 +23,7 @@ abbrev at-dawn : tie.After-or-one-of2 → tie.After-or-one-of
 at-dawn c = c .before .before
 
 pub four-spec : {M : Type 1} → statement M
-unfolding rows rowsIn all-good good plain is-letter spelledSo within
+unfolding rows rowsIn all-good plain is-letter spelledSo within
 four-spec =
     tie.close
     (tie.spec

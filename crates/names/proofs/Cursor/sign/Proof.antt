@@ -13,8 +13,8 @@ unfolding byte
 sign-spec =
     tie.close
     (tie.spec
+    (λ c. rw (one-past (eqb (c .before .args .b)) (now (c .before .args .s)) (c .before .args .self .at) (c .if1 .taken)))  -- returns
     (λ c. search needs)  -- shared-slice-read-if2
-    (λ c. search needs)  -- add-t12
-    (λ c. let a = c .before .before .before .args in rw (one-got (eqb (a .b)) (now (a .s)) (a .self .at) (omega arith) (eq-eqb _ _ (c .if2 .taken))))  -- returns
-    (λ c. let a = c .before .before .before .args in rw (one-other (eqb (a .b)) (now (a .s)) (a .self .at) (omega arith) (ne-eqb _ _ (c .if2 .left))))  -- returns-2
-    (λ c. rw (one-past (eqb (c .before .args .b)) (now (c .before .args .s)) (c .before .args .self .at) (c .if1 .left))))  -- returns-3
+    (λ c. let a = c .before .before .before .args in rw (one-other (eqb (a .b)) (now (a .s)) (a .self .at) (omega arith) (ne-eqb _ _ (c .if2 .taken))))  -- returns-2
+    (λ c. search needs)  -- add-t5
+    (λ c. let a = c .before .before .before .args in rw (one-got (eqb (a .b)) (now (a .s)) (a .self .at) (omega arith) (eq-eqb _ _ (c .if2 .left)))))  -- returns-3

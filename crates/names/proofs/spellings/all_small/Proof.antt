@@ -24,12 +24,12 @@ all-small-spec =
     Inv-loop
     μ-loop
     (λ c. refl)  -- loop-holds
-    (λ c. omega arith)  -- shared-slice-read-byte-within
-    (λ c κs. search needs)  -- byte-within-requires
+    (λ c. omega arith)  -- shared-slice-read-is-small
+    (λ c κs. search needs)  -- is-small-requires
     (λ c. search needs)  -- add-i
     (λ c. search needs)  -- loop-less
     (λ c. let l = c .before .before .before .before in let a = l .before .before .args in
-    rw (add-one (l .loop .i)) (sym (small-more (now (a .s)) (l .loop .i) (a .to) (omega arith) (omega arith) (sym (c .before .byte-within .ensures) ∙ c .if1 .taken)) ∙ l .loop .inv))  -- loop-again
+    rw (add-one (l .loop .i)) (sym (small-more (now (a .s)) (l .loop .i) (a .to) (omega arith) (omega arith) (sym (c .before .is-small .ensures) ∙ c .if1 .taken)) ∙ l .loop .inv))  -- loop-again
     (λ c. let l = c .before .before .before .before in let a = l .before .before .args in
-    sym (small-stop (now (a .s)) (l .loop .i) (a .to) (omega arith) (omega arith) (sym (c .before .byte-within .ensures) ∙ c .if1 .left)) ∙ l .loop .inv)  -- returns
+    sym (small-stop (now (a .s)) (l .loop .i) (a .to) (omega arith) (omega arith) (sym (c .before .is-small .ensures) ∙ c .if1 .left)) ∙ l .loop .inv)  -- returns
     (λ c. let l = c .before in let a = l .before .before .args in sym (small-none (now (a .s)) (l .loop .i) (a .to) (omega arith)) ∙ l .loop .inv))  -- returns-2
