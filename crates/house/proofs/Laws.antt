@@ -48,7 +48,8 @@ event-is (Dusk m) k = (refl, refl)
 abbrev others : List ℕ
 others = 0 ∷ 1 ∷ 2 ∷ 3 ∷ 4 ∷ 5 ∷ []
 
-same : (h : Judgement) → h ≡ record { first = firstOf (h .first) Nowhere; end = h .end }
+-- made of its fields, a judgement with no later break is the same
+pub same : (h : Judgement) → h ≡ record { first = firstOf (h .first) Nowhere; end = h .end }
 same h = rw (first-none (h .first))
 
 -- they change nothing, in any manner

@@ -62,6 +62,18 @@ impl Judgement {
         }
     }
 
+    // The same. (It too is made of its fields.)
+    fn unchanged(self) -> Judgement
+        ensures { λ r. ⌜ r ≡ self ⌝ }
+    {
+        let before = self.first;
+        let first = first_of(before, Break::Nowhere);
+        Judgement {
+            first,
+            end: self.end,
+        }
+    }
+
     // With an item more.
     pub fn item(self, m: Manner, a: Item, place: usize) -> Judgement
         ensures { λ r. ⌜ r ≡ breaks.withItem m self (a, place) ⌝ }
@@ -69,7 +81,7 @@ impl Judgement {
         match a {
             Item::Times(x) => match m {
                 Manner::House => self.span(x, place),
-                _ => self,
+                _ => self.unchanged(),
             },
             _ => self,
         }

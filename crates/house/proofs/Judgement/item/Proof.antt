@@ -14,6 +14,8 @@ item-spec =
     (λ c. search needs)  -- enum-known-a
     (λ c. search needs)  -- enum-told
     (λ c κs. search needs)  -- span-requires
+    (λ c κs. search needs)  -- unchanged-requires
     (λ c. rw (c .before .enum-told .given .1, c .before .before .before .before .a .given .1) (c .span .ensures))  -- returns
-    (λ c. let a = c .before .before .before .before .args in not-house (λ m. a .self ≡ withItem m (a .self) (a .a, a .place)) refl refl (a .m) (c .match2 .keys2))  -- returns-2
+    (λ c. let a = c .before .before .before .before .before .args in
+    rw (c .unchanged .ensures) (not-house (λ m. a .self ≡ withItem m (a .self) (a .a, a .place)) refl refl (a .m) (c .before .match2 .keys2)))  -- returns-2
     (λ c. let a = c .before .args in other-item (a .m) (a .self) (a .a) (a .place) (c .match .keys2)))  -- returns-3
