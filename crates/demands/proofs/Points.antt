@@ -18,10 +18,9 @@ use Rattle.names.specs.declared.Manner.the-variants.{Second}
 use Rattle.records.specs.Items.{judged, meant, item}
 use Rattle.records.specs.declared.Meant.{Meant}
 use Rattle.records.specs.declared.Meant.the-variants.{Is, Refused}
-use Rattle.times.specs.Times.{Event, clock, withOffset, eventWithOffset, rawTime}
+use Rattle.times.specs.Times.{clock, Event, Spelt, withOffset, eventWithOffset, time}
 use Rattle.times.specs.Spans.{repeated, tail, untilTime, spanAfter, spanShape, timeItem}
 use Rattle.times.specs.Meanings.{goodSpan, spanOf, spanMeaning}
-use Rattle.times.specs.declared.RawTime.{RawTime}
 use Rattle.times.specs.Shapes.{RawSpan, Alone, Open, Until}
 use Rattle.days.specs.Offsets.{plusOrMinus, dayOffset, anyDays, wdayOffset, offset, goodDays, daysOf}
 use Rattle.days.specs.Entries.{backEntry, frontEntry, entry, nextEntry, entries, bits}
@@ -215,29 +214,29 @@ eventWithOffset-tells : Tells eventWithOffset
 unfolding eventWithOffset
 eventWithOffset-tells = then-tells (byte-tells 40) (λ _. then-tells (named-tells event) (λ e. then-tells (withOffset-tells e) (λ t. then-tells (byte-tells 41) (λ _. pure-tells t))))
 
-rawTime-tells : Tells rawTime
-unfolding rawTime
-rawTime-tells = or-tells (then-tells clock-tells (λ c. pure-tells _)) (or-tells (then-tells (named-tells event) (λ e. pure-tells _)) eventWithOffset-tells)
+time-tells : Tells time
+unfolding time
+time-tells = or-tells (then-tells clock-tells (λ c. pure-tells _)) (or-tells (then-tells (named-tells event) (λ e. pure-tells _)) eventWithOffset-tells)
 
 repeated-tells : Tells repeated
 unfolding repeated
-repeated-tells = or-tells (then-tells clock-tells (λ c. pure-tells _)) (then-tells (number-tells 2 2) (λ m. pure-tells _))
+repeated-tells = or-tells clock-tells (then-tells (number-tells 2 2) (λ m. pure-tells _))
 
 tail-tells : Tells tail
 unfolding tail
-tail-tells = or-tells (then-tells (byte-tells 43) (λ _. pure-tells _)) (or-tells (then-tells (byte-tells 47) (λ _. repeated-tells)) (pure-tells _))
+tail-tells = or-tells (then-tells (byte-tells 43) (λ _. pure-tells _)) (or-tells (then-tells (byte-tells 47) (λ _. then-tells repeated-tells (λ n. pure-tells _))) (pure-tells _))
 
-untilTime-tells : (start : RawTime) → Tells (untilTime start)
+untilTime-tells : (start : Spelt) → Tells (untilTime start)
 unfolding untilTime
-untilTime-tells start = then-tells (byte-tells 45) (λ _. then-tells rawTime-tells (λ end. then-tells tail-tells (λ t. pure-tells _)))
+untilTime-tells start = then-tells (byte-tells 45) (λ _. then-tells time-tells (λ end. then-tells tail-tells (λ t. pure-tells _)))
 
-spanAfter-tells : (start : RawTime) → Tells (spanAfter start)
+spanAfter-tells : (start : Spelt) → Tells (spanAfter start)
 unfolding spanAfter
 spanAfter-tells start = or-tells (then-tells (byte-tells 43) (λ _. pure-tells _)) (or-tells (untilTime-tells start) (pure-tells _))
 
 spanShape-tells : Tells spanShape
 unfolding spanShape
-spanShape-tells = then-tells rawTime-tells spanAfter-tells
+spanShape-tells = then-tells time-tells spanAfter-tells
 
 -- here a time alone is a span
 span-other : (r : RawSpan) → OtherMeant (spanMeaning Second r)

@@ -22,7 +22,7 @@ use Rattle.names.proofs.Search.{no-word}
 use Rattle.names.proofs.Odd.{named-none}
 use Rattle.names.proofs.Skips.{skip-stop, skip-sure}
 use Rattle.records.specs.declared.Item.{Item}
-use Rattle.times.specs.Times.{clock, eventWithOffset, rawTime}
+use Rattle.times.specs.Times.{clock, eventWithOffset, time}
 use Rattle.times.specs.Spans.{spanShape, timeItem}
 use Rattle.items.specs.Musts.{missing, must}
 use Rattle.items.specs.Kinds.{afterBlank, Placed, itemOf, itemIn}
@@ -134,7 +134,7 @@ module _ (s : List ℕ) where
   no-hour k h = rw (no-digit k h)
 
   no-time : (k : ℕ) → Sign (getD s k 0) → timeItem First s k ≡ none
-  unfolding timeItem spanShape rawTime clock eventWithOffset byte
+  unfolding timeItem spanShape time clock eventWithOffset byte
   no-time k h = rw (no-hour k h, named-none s k event (name-none s k event (no-word s k (omega (arith, h .1)))), one-is (eqb 40) refl s k refl (ne-eqb 40 (getD s k 0) (λ q. omega (arith, h .0))))
 
   -- a blank begins with a byte 32

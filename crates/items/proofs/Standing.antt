@@ -19,7 +19,7 @@ use Rattle.names.proofs.Search.{no-word, word-letter}
 use Rattle.names.proofs.Odd.{named-got, named-none, spelled-got, spelled-none}
 use Rattle.records.specs.declared.Item.{Item}
 use Rattle.records.proofs.Anywhere.{item-after}
-use Rattle.times.specs.Times.{clock, eventAlone, eventWithOffset, rawTime}
+use Rattle.times.specs.Times.{clock, eventAlone, eventWithOffset, time}
 use Rattle.times.specs.Spans.{spanAfter, spanShape, timeItem, eventItemAfter}
 use Rattle.times.specs.Meanings.{spanMeaning}
 use Rattle.days.specs.Weekdays.{weekdayAfter, weekdayShape, weekdayMeaning, weekdayItem, weekdayItemAfter}
@@ -99,16 +99,16 @@ module _ (s : List ℕ) (i : ℕ) where
     no-bracket = rw (not-below (eqb 40) refl (λ b h. ne-eqb 40 b (λ e. omega arith)))
 
     -- a time that begins with an event, or none
-    timed : k ≡ event → rawTime s i ≡ got (eventAlone (v, odd event s i j)) j
-    unfolding rawTime
+    timed : k ≡ event → time s i ≡ got (eventAlone (v, odd event s i j)) j
+    unfolding time
     timed e = rw (clock-none no-digit, named-got s i event (name-is event w e))
 
     pub event-time : k ≡ event → timeItem m s i ≡ eventItemAfter m i v s j
     unfolding timeItem spanShape eventItemAfter
-    event-time e = item-after rawTime spanAfter (spanMeaning m) (timed e)
+    event-time e = item-after time spanAfter (spanMeaning m) (timed e)
 
     pub other-time : (k ≡ event → ⊥) → timeItem m s i ≡ none
-    unfolding timeItem spanShape rawTime
+    unfolding timeItem spanShape time
     other-time e = rw (clock-none no-digit, named-none s i event (name-other event w e), no-bracket)
 
     -- a weekday, a holiday

@@ -23,7 +23,7 @@ use Rattle.names.proofs.NameCut.{plain, allOf-local, name-local}
 use Rattle.names.proofs.Odd.{odd-local, named-local}
 use Rattle.records.specs.declared.Item.{Item}
 use Rattle.records.proofs.Cut.{Alike, item-alike}
-use Rattle.times.specs.Times.{clock, eventWithOffset, rawTime}
+use Rattle.times.specs.Times.{clock, eventWithOffset, time}
 use Rattle.times.specs.Spans.{spanShape, timeItem}
 use Rattle.times.specs.Meanings.{spanMeaning}
 use Rattle.times.proofs.Cut.{withOffset-alike, spanAfter-alike, meaning-refuses, timeItem-alike}
@@ -103,7 +103,7 @@ module _ {u : List ℕ} where
       (byte-local 41 refl refl)) (λ _. pure-local t))))
 
   time-two : (m : Manner) → Alike u 2 (timeItem m)
-  unfolding timeItem spanShape rawTime
+  unfolding timeItem spanShape time
   time-two m =
       item-alike (then-local (or-local (then-local clock-two (λ c. pure-local _)) (or-local (then-local (named-two event)
       (λ e. pure-local _)) event-two)) spanAfter-alike) (spanMeaning m) (meaning-refuses m)

@@ -12,10 +12,9 @@ use Rattle.names.proofs.Cut.{byte-local, hour-local, minute-local, minutes-loca
 use Rattle.names.proofs.Odd.{named-local}
 use Rattle.records.proofs.Cut.{Alike, Refuses, refuses-if, item-alike}
 use Rattle.records.specs.declared.Meant.the-variants.{Refused}
-use Rattle.times.specs.Times.{Event, clock, withOffset, eventWithOffset, rawTime}
+use Rattle.times.specs.Times.{clock, Event, Spelt, withOffset, eventWithOffset, time}
 use Rattle.times.specs.Spans.{repeated, tail, untilTime, spanAfter, spanShape, timeItem}
 use Rattle.times.specs.Meanings.{goodSpan, spanOf, spanMeaning}
-use Rattle.times.specs.declared.RawTime.{RawTime}
 use Rattle.times.specs.Shapes.{RawSpan, Alone, Open, Until}
 
 module _ {u : List ℕ} where
@@ -35,31 +34,31 @@ module _ {u : List ℕ} where
       then-local (byte-local 40 refl refl) (λ _. then-local (free (named-local event)) (λ e.
       then-local (free (withOffset-alike e)) (λ t. then-local (free (byte-local 41 refl refl)) (λ _. pure-local t))))
 
-  pub rawTime-alike : Alike u 1 rawTime
-  unfolding rawTime
-  rawTime-alike = or-local (then-local clock-alike (λ c. pure-local _)) (or-local (then-local (named-local event) (λ e. pure-local _)) eventWithOffset-alike)
+  pub time-alike : Alike u 1 time
+  unfolding time
+  time-alike = or-local (then-local clock-alike (λ c. pure-local _)) (or-local (then-local (named-local event) (λ e. pure-local _)) eventWithOffset-alike)
 
   pub repeated-alike : Alike u 1 repeated
   unfolding repeated
-  repeated-alike = or-local (then-local clock-alike (λ c. pure-local _)) (loose (then-local minutes-local (λ m. pure-local _)) (omega arith))
+  repeated-alike = or-local clock-alike (loose (then-local minutes-local (λ m. pure-local _)) (omega arith))
 
   pub tail-alike : Alike u 0 tail
   unfolding tail
   tail-alike =
       or-local (free (then-local (byte-local 43 refl refl) (λ _. pure-local _)))
-      (or-local (free (then-local (byte-local 47 refl refl) (λ _. free repeated-alike))) (pure-local _))
+      (or-local (free (then-local (byte-local 47 refl refl) (λ _. then-local (free repeated-alike) (λ n. pure-local _)))) (pure-local _))
 
-  pub untilTime-alike : (start : RawTime) → Alike u 1 (untilTime start)
+  pub untilTime-alike : (start : Spelt) → Alike u 1 (untilTime start)
   unfolding untilTime
-  untilTime-alike start = then-local (byte-local 45 refl refl) (λ _. then-local (free rawTime-alike) (λ end. then-local tail-alike (λ t. pure-local _)))
+  untilTime-alike start = then-local (byte-local 45 refl refl) (λ _. then-local (free time-alike) (λ end. then-local tail-alike (λ t. pure-local _)))
 
-  pub spanAfter-alike : (start : RawTime) → Alike u 0 (spanAfter start)
+  pub spanAfter-alike : (start : Spelt) → Alike u 0 (spanAfter start)
   unfolding spanAfter
   spanAfter-alike start = or-local (free (then-local (byte-local 43 refl refl) (λ _. pure-local _))) (or-local (free (untilTime-alike start)) (pure-local _))
 
   pub spanShape-alike : Alike u 1 spanShape
   unfolding spanShape
-  spanShape-alike = then-local rawTime-alike spanAfter-alike
+  spanShape-alike = then-local time-alike spanAfter-alike
 
 -- a span's refusals have numbers
 pub meaning-refuses : (m : Manner) (r : RawSpan) → Refuses (spanMeaning m r)

@@ -19,9 +19,9 @@ use Rattle.records.specs.declared.Time.{Time}
 use Rattle.records.specs.declared.Time.the-variants.{Fixed, Dawn, Sunrise, Sunset, Dusk}
 use Rattle.records.specs.declared.Repeat.{Repeat}
 use Rattle.records.specs.declared.Repeat.the-variants.{Never, Every}
-use Rattle.times.specs.Times.{clock, withOffset, eventWithOffset, rawTime}
+use Rattle.times.specs.Times.{clock, eventOf, withOffset, eventWithOffset, time}
 use Rattle.times.specs.Spans.{repeated, tail, untilTime, spanAfter, spanShape, timeItem}
-use Rattle.times.specs.Meanings.{eventOf, spanMeaning}
+use Rattle.times.specs.Meanings.{spanMeaning}
 
 -- a span of times
 span : Time → Time → Repeat → Bool → Item
@@ -57,7 +57,7 @@ spans =
     ∷ []
 
 spans-right : map (λ e. timeItem First (bytes (e .0)) (e .1 .0)) spans ≡ map (λ e. e .1 .1) spans
-unfolding spans span timeItem spanShape spanAfter untilTime tail repeated rawTime eventWithOffset withOffset clock eventOf spanMeaning
+unfolding spans span timeItem spanShape spanAfter untilTime tail repeated time eventWithOffset withOffset clock eventOf spanMeaning
     number digits upTo digit isDigit within clockAfter skip many chain chainIn byte one ahead named odd warns wellWritten wellBegun allSmall name word firstOf names allOf letter spelledSo lower
 spans-right = refl
 
@@ -73,6 +73,6 @@ points =
     ∷ []
 
 points-right : map (λ e. timeItem Second (bytes (e .0)) 0) points ≡ map (λ e. e .1) points
-unfolding points point span timeItem spanShape spanAfter untilTime tail repeated rawTime eventWithOffset withOffset clock eventOf spanMeaning
+unfolding points point span timeItem spanShape spanAfter untilTime tail repeated time eventWithOffset withOffset clock eventOf spanMeaning
     number digits upTo digit isDigit within clockAfter skip many chain chainIn byte one ahead named odd warns wellWritten wellBegun allSmall name word firstOf names allOf letter spelledSo lower
 points-right = refl

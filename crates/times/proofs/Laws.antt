@@ -1,21 +1,22 @@
 -- Laws of the times that code's own steps go by.
-use Prim.Native.Nat.{ℕ, _≤_}
-use mathlib.Core.Bool.{Bool, true, false, _&&_, and-false, true≢false}
+use Prim.Native.Nat.{ℕ, _^_, _<_}
+use mathlib.Core.Bool.{Bool, true, false, and-false}
 use mathlib.Core.List.{List}
-use mathlib.Core.Path.{_≡_, refl, sym, ap, _∙_}
+use mathlib.Core.Path.{_≡_, refl, sym, _∙_}
 use native.Mathlib.Omega.{arith}
-use borrow.Author.Tests.{eqb-true, ne-eqb, leb-true, le-leb}
+use borrow.Author.Tests.{eqb-true, ne-eqb}
 use lib.Dec.{eqb}
+use lib.IntN.{ℤ}
 use lib.ListN.{getD}
+use lib.Signed.{mag}
+use mir.Syntax.{w16}
+use mir.Val.{ofZ, toZ}
 use Rattle.names.specs.Read.{Read, got, none, refused, follow, nothing, pure, one}
 use Rattle.names.specs.Texts.{byte}
 use Rattle.names.proofs.Laws.{or-none}
+use Rattle.records.proofs.Laws.{half-fits}
 use Rattle.times.specs.Times.{Event, clock, sun, sunOf, withOffset}
-use Rattle.times.specs.Shapes.{Until}
-use Rattle.times.specs.Meanings.{midnight, nextMidnight, goodStart, goodEnd, goodSpan}
-use Rattle.times.specs.declared.RawTime.{RawTime}
-use Rattle.times.specs.declared.RawTime.the-variants.{Fixed, Sun}
-use Rattle.times.specs.declared.RawTail.{RawTail}
+use Rattle.times.specs.Meanings.{near}
 
 -- where one sign stands, another does not
 sign-alone : (b d : ℕ) (s : List ℕ) (i : ℕ) {j : ℕ} → (b ≡ d → ⊥) → byte b s i ≡ got tt j → byte d s i ≡ none
@@ -42,21 +43,6 @@ pub withOffset-minus : (e : Event) (s : List ℕ) (i : ℕ) {j : ℕ} → byte 4
 unfolding withOffset
 withOffset-minus e s i {j} p q = rw (p, q) (sun-is e true s j (clock s j))
 
--- a start in range is in range as an end
-pub start-end : (t : RawTime) → goodStart t ≡ true → goodEnd t ≡ true
-start-end (Fixed c) good = le-leb c nextMidnight (omega (arith, leb-true c midnight good))
-start-end (Sun c e negative odd) good = good
-
--- where three tests pass, the first two do
-first-two : (a b c : Bool) → (a && b && c) ≡ true → (a ≡ true) × (b ≡ true)
-first-two true true c e = (refl, refl)
-first-two true false c e = absurd (true≢false (sym e))
-first-two false b c e = absurd (true≢false (sym e))
-
--- both times of a span in range are in range as ends
-pub both-ends : (a b : RawTime) (t : RawTail) → goodSpan (Until a b t) ≡ true → (goodEnd a ≡ true) × (goodEnd b ≡ true)
-both-ends a b t good = let g = first-two _ _ _ good in (start-end a (g .0), g .1)
-
--- an event's minutes in range fit an i16
-pub sun-small : (t : RawTime) {e : ℕ} {negative odd : Bool} {c : ℕ} → goodEnd t ≡ true → t ≡ Sun c e negative odd → c ≤ 32767
-sun-small t {c = c} good is = omega (arith, leb-true c midnight (sym (ap goodEnd is) ∙ good))
+-- an event's minutes in range, from the machine's number
+pub event-near : (m : ℤ) {x : ℕ} {b : Bool} → mag m < 2 ^ 15 → x ≡ ofZ w16 m → b ≡ near (toZ w16 x) → b ≡ near m
+event-near m h e n = rw (e, half-fits m h) at n

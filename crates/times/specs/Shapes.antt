@@ -1,9 +1,10 @@
 -- A span as it is read.
-use Rattle.times.specs.declared.RawTime.{RawTime}
-use Rattle.times.specs.declared.RawTail.{RawTail}
+use mathlib.Core.Bool.{Bool}
+use Rattle.records.specs.declared.Repeat.{Repeat}
+use Rattle.times.specs.Times.{Spelt}
 
--- a time alone, a time and a plus, or two times and what stands after the end
+-- a time alone, a time and a plus, or two times and what stands after the end: the repeat, and whether the end is open
 pub data RawSpan : Type 0 where
-  Alone : RawTime → RawSpan
-  Open : RawTime → RawSpan
-  Until : RawTime → RawTime → RawTail → RawSpan
+  Alone : Spelt → RawSpan
+  Open : Spelt → RawSpan
+  Until : Spelt → Spelt → (Repeat × Bool) → RawSpan

@@ -1,5 +1,6 @@
 -- Span: time`+`; or time`-`end and then nothing, `+`, `/MM` or `/H:MM`; a time alone is a shape too (docs/RULES.md, 2).
 use Prim.Native.Nat.{ℕ}
+use mathlib.Core.Bool.{Bool, true, false}
 use Rattle.names.specs.Read.{Reader, pure, _>>=_, _>>_, _or_}
 use Rattle.names.specs.Texts.{sign}
 use Rattle.names.specs.Numbers.{minutes}
@@ -8,37 +9,36 @@ use Rattle.names.specs.Spellings.{oddFrom}
 use Rattle.names.specs.declared.Manner.{Manner}
 use Rattle.records.specs.Items.{item, meant}
 use Rattle.records.specs.declared.Item.{Item}
-use Rattle.times.specs.Times.{clock, rawTime, eventAlone}
+use Rattle.records.specs.declared.Repeat.{Repeat}
+use Rattle.records.specs.declared.Repeat.the-variants.{Never, Every}
+use Rattle.times.specs.Times.{minutesOf, clock, Spelt, time, eventAlone}
 use Rattle.times.specs.Meanings.{spanMeaning}
-use Rattle.times.specs.declared.RawTime.{RawTime}
-use Rattle.times.specs.declared.RawTail.{RawTail}
-use Rattle.times.specs.declared.RawTail.the-variants.{Nothing, Plus, Minutes, Hours}
 use Rattle.times.specs.Shapes.{RawSpan, Alone, Open, Until}
 
 -- after `/`: `H:MM` or `MM`
-unfoldable pub repeated : Reader RawTail
-repeated = (do c ← clock; pure (Hours c)) or (do m ← minutes; pure (Minutes m))
+unfoldable pub repeated : Reader ℕ
+repeated = clock or (do m ← minutes; pure (minutesOf 0 m))
 
--- what stands after a span's end: `+`, `/MM` or `/H:MM`, or nothing
-unfoldable pub tail : Reader RawTail
-tail = (do sign "+"; pure Plus) or (do sign "/"; repeated) or pure Nothing
+-- what stands after a span's end: `+`, `/MM` or `/H:MM`, or nothing; so the repeat, and whether the end is open
+unfoldable pub tail : Reader (Repeat × Bool)
+tail = (do sign "+"; pure (Never, true)) or (do sign "/"; n ← repeated; pure (Every n, false)) or pure (Never, false)
 
 -- after a start: `-` and an end, and what stands after it
-unfoldable pub untilTime : RawTime → Reader RawSpan
+unfoldable pub untilTime : Spelt → Reader RawSpan
 untilTime start = do
   sign "-"
-  end ← rawTime
+  end ← time
   t ← tail
   pure (Until start end t)
 
 -- the shape after its start
-unfoldable pub spanAfter : RawTime → Reader RawSpan
+unfoldable pub spanAfter : Spelt → Reader RawSpan
 spanAfter start = (do sign "+"; pure (Open start)) or untilTime start or pure (Alone start)
 
 -- the shape of a span
 unfoldable pub spanShape : Reader RawSpan
 spanShape = do
-  start ← rawTime
+  start ← time
   spanAfter start
 
 -- an item of a time list

@@ -1,12 +1,9 @@
 // What a span means: its numbers' ranges, and the item.
-ghost use mathlib.Core.Bool.{true};
+ghost use mathlib.Core.Bool.{_&&_};
 ghost use mathlib.Core.Path.{_≡_};
 ghost use Rattle.names.specs.declared.Manner.{Manner};
 ghost use Rattle.times.specs.Shapes.{Alone, Open, Until};
 ghost use Rattle.times.specs.Meanings as meanings;
-use crate::RawTail;
-use crate::RawTime;
-use crate::times::LAST_MINUTE;
 use names::Manner;
 use names::POINT_IN_TIME;
 use names::RANGE;
@@ -15,7 +12,6 @@ use records::Meant;
 use records::Repeat;
 use records::Span;
 use records::Time;
-use records::signed;
 
 // The minutes of 24:00.
 const MIDNIGHT: u16 = 1440;
@@ -23,125 +19,74 @@ const MIDNIGHT: u16 = 1440;
 // The minutes of 48:00.
 const NEXT_MIDNIGHT: u16 = 2880;
 
+// The minutes of 24:00, added to an event.
+const AHEAD: i16 = 1440;
+
+// The minutes of 24:00, taken off.
+const BACK: i16 = -1440;
+
+// What is added to an event, or taken off, in range: up to 24:00.
+fn near(m: i16) -> bool
+    ensures { λ r. ⌜ r ≡ meanings.near m ⌝ }
+{
+    if BACK <= m { m <= AHEAD } else { false }
+}
+
 // A start in range.
-fn good_start(t: RawTime) -> bool
+fn good_start(t: Time) -> bool
     ensures { λ r. ⌜ r ≡ meanings.goodStart t ⌝ }
 {
     match t {
-        RawTime::Fixed(c) => c <= MIDNIGHT,
-        RawTime::Sun(c, _, _, _) => c <= MIDNIGHT,
+        Time::Fixed(c) => c <= MIDNIGHT,
+        Time::Dawn(c) | Time::Sunrise(c) | Time::Sunset(c) | Time::Dusk(c) => near(c),
     }
 }
 
 // An end in range.
-fn good_end(t: RawTime) -> bool
+fn good_end(t: Time) -> bool
     ensures { λ r. ⌜ r ≡ meanings.goodEnd t ⌝ }
 {
     match t {
-        RawTime::Fixed(c) => c <= NEXT_MIDNIGHT,
-        RawTime::Sun(c, _, _, _) => c <= MIDNIGHT,
+        Time::Fixed(c) => c <= NEXT_MIDNIGHT,
+        Time::Dawn(c) | Time::Sunrise(c) | Time::Sunset(c) | Time::Dusk(c) => near(c),
     }
 }
 
-// A tail in range.
-fn good_tail(t: RawTail) -> bool
-    ensures { λ r. ⌜ r ≡ meanings.goodTail t ⌝ }
+// A repeat in range.
+fn good_repeat(t: Repeat) -> bool
+    ensures { λ r. ⌜ r ≡ meanings.goodRepeat t ⌝ }
 {
     match t {
-        RawTail::Nothing => true,
-        RawTail::Plus => true,
-        RawTail::Minutes(m) => (m as u32) <= LAST_MINUTE,
-        RawTail::Hours(c) => c < MIDNIGHT,
+        Repeat::Never => true,
+        Repeat::Every(m) => m < MIDNIGHT,
     }
 }
 
-// Two times and a tail in range.
-fn good_until(a: RawTime, b: RawTime, t: RawTail) -> bool
-    ensures { λ x. ⌜ x ≡ meanings.goodSpan (Until a b t) ⌝ }
+// Two times and a repeat in range.
+fn good_until(a: Time, b: Time, t: Repeat) -> bool
+    ensures { λ r. ⌜ r ≡ (meanings.goodStart a && meanings.goodEnd b && meanings.goodRepeat t) ⌝ }
 {
     if good_start(a) {
-        if good_end(b) { good_tail(t) } else { false }
+        if good_end(b) { good_repeat(t) } else { false }
     } else {
         false
     }
 }
 
-// An event by its number, with minutes added or taken off.
-fn event_of(e: u8, minutes: i16) -> Time
-    ensures { λ r. ⌜ r ≡ meanings.eventOf e minutes ⌝ }
-{
-    if e == 1 {
-        return Time::Dawn(minutes);
-    }
-    if e == 2 {
-        return Time::Sunrise(minutes);
-    }
-    if e == 3 {
-        return Time::Sunset(minutes);
-    }
-    Time::Dusk(minutes)
-}
-
-// A clock time in minutes, or an event with minutes added or taken off. It is in range, so that the minutes fit an i16.
-fn time_of(t: RawTime) -> Time
-    requires { ⌜ meanings.goodEnd t ≡ true ⌝ }
-    ensures { λ r. ⌜ r ≡ meanings.timeOf t ⌝ }
-{
-    match t {
-        RawTime::Fixed(c) => Time::Fixed(c),
-        RawTime::Sun(c, e, negative, _) => event_of(e, signed(negative, c)),
-    }
-}
-
-// Whether the name of a time's event calls for a warning.
-fn is_odd(t: RawTime) -> bool
-    ensures { λ r. ⌜ r ≡ meanings.isOdd t ⌝ }
-{
-    match t {
-        RawTime::Fixed(_) => false,
-        RawTime::Sun(_, _, _, odd) => odd,
-    }
-}
-
-// The repeat.
-fn repeat_of(t: RawTail) -> Repeat
-    ensures { λ r. ⌜ r ≡ meanings.repeatOf t ⌝ }
-{
-    match t {
-        RawTail::Nothing => Repeat::Never,
-        RawTail::Plus => Repeat::Never,
-        RawTail::Minutes(m) => Repeat::Every(m as u16),
-        RawTail::Hours(c) => Repeat::Every(c),
-    }
-}
-
-// Whether the end is open.
-fn open_end_of(t: RawTail) -> bool
-    ensures { λ r. ⌜ r ≡ meanings.openEndOf t ⌝ }
-{
-    match t {
-        RawTail::Nothing => false,
-        RawTail::Plus => true,
-        RawTail::Minutes(_) => false,
-        RawTail::Hours(_) => false,
-    }
-}
-
 // What a time alone in range is: a span that ends where it starts in the second edition, and else refused.
-fn alone_of(m: Manner, t: RawTime) -> Meant
-    requires { ⌜ meanings.goodStart t ≡ true ⌝ }
-    ensures { λ x. ⌜ x ≡ meanings.aloneOf m t ⌝ }
+fn alone_of(m: Manner, t: Time, odd: bool) -> Meant
+    ensures { λ x. ⌜ x ≡ meanings.aloneOf m (t, odd) ⌝ }
 {
     match m {
         Manner::Second => {
-            let only = time_of(t);
+            let only = t;
             Meant::Is(Item::Times(Span {
                 start: only,
                 end: only,
                 repeats: Repeat::Never,
                 open_end: false,
                 point: true,
-                odd_start: is_odd(t),
+                odd_start: odd,
                 odd_end: false,
             }))
         }
@@ -150,29 +95,29 @@ fn alone_of(m: Manner, t: RawTime) -> Meant
 }
 
 // The meaning of a time alone.
-pub fn alone_meaning(m: Manner, only: RawTime) -> Meant
-    ensures { λ x. ⌜ x ≡ meanings.spanMeaning m (Alone only) ⌝ }
+pub fn alone_meaning(m: Manner, only: Time, odd: bool) -> Meant
+    ensures { λ x. ⌜ x ≡ meanings.spanMeaning m (Alone (only, odd)) ⌝ }
 {
     if good_start(only) {
-        alone_of(m, only)
+        alone_of(m, only, odd)
     } else {
         Meant::Refused(RANGE)
     }
 }
 
 // The meaning of a time and a plus: `10:00+` ends at 24:00, open.
-pub fn open_meaning(t: RawTime) -> Meant
-    ensures { λ x. ⌜ ((m : Manner) → x ≡ meanings.spanMeaning m (Open t)) ⌝ }
+pub fn open_meaning(t: Time, odd: bool) -> Meant
+    ensures { λ x. ⌜ ((m : Manner) → x ≡ meanings.spanMeaning m (Open (t, odd))) ⌝ }
 {
     if good_start(t) {
-        let start = time_of(t);
+        let start = t;
         Meant::Is(Item::Times(Span {
             start,
             end: Time::Fixed(MIDNIGHT),
             repeats: Repeat::Never,
             open_end: true,
             point: false,
-            odd_start: is_odd(t),
+            odd_start: odd,
             odd_end: false,
         }))
     } else {
@@ -181,22 +126,27 @@ pub fn open_meaning(t: RawTime) -> Meant
 }
 
 // The meaning of two times and what stands after the end.
-pub fn until_meaning(a: RawTime, b: RawTime, t: RawTail) -> Meant
-    ensures { λ x. ⌜ ((m : Manner) → x ≡ meanings.spanMeaning m (Until a b t)) ⌝ }
+pub fn until_meaning(
+    a: Time,
+    odd: bool,
+    b: Time,
+    odd_end: bool,
+    repeats: Repeat,
+    open_end: bool,
+) -> Meant
+    ensures { λ x. ⌜ ((m : Manner) → x ≡ meanings.spanMeaning m (Until (a, odd) (b, «odd_end») (repeats, «open_end»))) ⌝ }
 {
-    if good_until(a, b, t) {
-        let start = time_of(a);
-        let end = time_of(b);
-        let repeats = repeat_of(t);
-        let open_end = open_end_of(t);
+    if good_until(a, b, repeats) {
+        let start = a;
+        let end = b;
         Meant::Is(Item::Times(Span {
             start,
             end,
             repeats,
             open_end,
             point: false,
-            odd_start: is_odd(a),
-            odd_end: is_odd(b),
+            odd_start: odd,
+            odd_end,
         }))
     } else {
         Meant::Refused(RANGE)

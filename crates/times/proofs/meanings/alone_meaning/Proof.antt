@@ -10,6 +10,6 @@ alone-meaning-spec =
     tie.close
     (tie.spec
     (λ c κs. search needs)  -- good-start-requires
-    (λ c κs. sym (c .before .good-start .ensures) ∙ c .if1 .taken)  -- alone-of-requires
+    (λ c κs. search needs)  -- alone-of-requires
     (λ c. rw (sym (c .before .before .good-start .ensures) ∙ c .before .if1 .taken) (c .alone-of .ensures))  -- returns
     (λ c. rw (sym (c .before .good-start .ensures) ∙ c .if1 .left)))  -- returns-2

@@ -4,7 +4,6 @@ use mathlib.Core.Path.{_≡_, refl}
 use Rattle.names.proofs.Manners.{not-second}
 use Rattle.times.specs.Meanings.{aloneOf}
 use Rattle.records.specs.declared.Meant.the-variants.{Refused}
-use Rattle.times.proofs.Laws.{start-end}
 use Rattle.times.proofs.meanings.alone_of.Statement.{statement}
 use Rattle.times.proofs.meanings.alone_of.Tie as tie
 
@@ -13,7 +12,5 @@ alone-of-spec =
     tie.close
     (tie.spec
     (λ c. search needs)  -- enum-told
-    (λ c κs. let s = c .before .before in start-end (s .args .t) (s .pre))  -- time-of-requires
-    (λ c κs. search needs)  -- is-odd-requires
-    (λ c. let t = c .before in rw (t .before .enum-told .given .1, t .time-of .ensures, c .is-odd .ensures))  -- returns
-    (λ c. let a = c .before .args in not-second (λ m. Refused 8 ≡ aloneOf m (a .t)) refl refl (a .m) (c .match .keys2)))  -- returns-2
+    (λ c. rw (c .enum-told .given .1))  -- returns
+    (λ c. let a = c .before .args in not-second (λ m. Refused 8 ≡ aloneOf m (a .t, a .odd)) refl refl (a .m) (c .match .keys2)))  -- returns-2

@@ -9,5 +9,6 @@ event-item-after-spec =
     tie.close
     (tie.spec
     (λ c κs. search needs)  -- odd-requires
+    (λ c κs. search needs)  -- event-of-requires
     (λ c κs. search needs)  -- span-item-after-requires
-    (λ c. rw (c .before .odd .ensures) at (c .span-item-after .ensures)))  -- returns
+    (λ c. rw (c .before .before .odd .ensures, c .before .event-of .ensures) at (c .span-item-after .ensures)))  -- returns

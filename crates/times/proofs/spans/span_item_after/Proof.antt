@@ -1,6 +1,6 @@
 use Prim.Native.Nat.{ℕ}
 use mathlib.Core.List.{List, [], _∷_}
-use mathlib.Core.Path.{_≡_, refl, ap, _∙_}
+use mathlib.Core.Path.{_≡_, refl}
 use borrow.Author.Needs.{needs}
 use denote.Ref.{now}
 use denote.Enum.Declared.{tagOf}
@@ -44,10 +44,12 @@ module _ (p : ℕ) (f : RawSpan → Meant) (s : List ℕ) (i : ℕ) where
   found (Is a) j q = cc
   found (Refused k) j q = cc
 
-  next : (a : RawSpan) (r : Read RawSpan) → as-item r ≡ none → as-item (follow s i r pure (pure a)) ≡ judged p (f a) s i
-  next a (got b j) q = found (f b) j q
-  next a none q = refl
-  next a (refused e o) q = cc
+  next : (x : ItemRead) → x ≡ item.Missing → (a : RawSpan) (r : Read RawSpan) → as-item r ≡ seenItem x → as-item (follow s i r pure (pure a)) ≡ judged p (f a) s i
+  next (item.Got b c) k a r q = cc
+  next item.Missing k a (got b j) q = found (f b) j q
+  next item.Missing k a none q = refl
+  next item.Missing k a (refused e o) q = cc
+  next (item.Refused e o) k a r q = cc
 
 abbrev no-plus : tie.After-enum-told → Went
 no-plus c = went (c .before .before .sign .ensures) (c .enum-told .given .1)
@@ -71,12 +73,12 @@ span-item-after-spec =
     (λ c. let o = c .before .alone-meaning in let u = c .before .before .before .before in let a = u .before .before .before .before .before .args in
     rw (
       no-plus (u .before) .is,
-      next (a .p) (spanMeaning (a .m)) (now (a .s)) (a .c .at) (Alone (a .start)) (untilTime (a .start) (now (a .s)) (a .c .at))
-          (u .until-item .ensures (a .m) ∙ ap seenItem (c .before .before .enum-told2 .given .1)),
+      next (a .p) (spanMeaning (a .m)) (now (a .s)) (a .c .at) (u .until-item .result) (c .before .before .enum-told2 .given .1) (Alone (a .start, a .odd))
+          (untilTime (a .start, a .odd) (now (a .s)) (a .c .at)) (u .until-item .ensures (a .m)),
       ← o .ensures,
       judged-in (a .p) (o .result) (now (a .s)) [] (a .c .at),
     )
     (c .judged2 .ensures))  -- returns-2
     (λ c. let u = c .before in let a = u .before .before .before .before .before .args in
-    rw (no-plus (u .before) .is) (stays (a .p) (spanMeaning (a .m)) (now (a .s)) (a .c .at) (u .until-item .result) (c .match2 .keys2) (pure (Alone (a .start)))
-    (untilTime (a .start) (now (a .s)) (a .c .at)) (u .until-item .ensures (a .m)))))  -- returns-3
+    rw (no-plus (u .before) .is) (stays (a .p) (spanMeaning (a .m)) (now (a .s)) (a .c .at) (u .until-item .result) (c .match2 .keys2) (pure (Alone (a .start, a .odd)))
+    (untilTime (a .start, a .odd) (now (a .s)) (a .c .at)) (u .until-item .ensures (a .m)))))  -- returns-3

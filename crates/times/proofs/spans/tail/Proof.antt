@@ -2,7 +2,7 @@ use borrow.Author.Needs.{needs}
 use mathlib.Core.Path.{ap}
 use Rattle.names.proofs.Facts.{Went, went, said}
 use Rattle.times.specs.Spans.{tail}
-use Rattle.times.specs.Seen.{seenTail}
+use Rattle.times.specs.Seen.{seenClock}
 use Rattle.times.proofs.spans.tail.Statement.{statement}
 use Rattle.times.proofs.spans.tail.Tie as tie
 
@@ -32,6 +32,6 @@ tail-spec =
     (λ c. search needs)  -- enum-known-again
     (λ c. search needs)  -- enum-told-3
     (λ c. let w = slash (c .before .before .before .before .before) in
-    let v = said (c .before .before .before .repeated .ensures) (ap seenTail (c .before .again .given .1)) in rw (w .0 .is, w .1 .is, v .is))  -- returns-3
-    (λ c. let w = slash (c .before .before .before .before) in let v = said (c .before .before .repeated .ensures) (ap seenTail (c .enum-told3 .given .1)) in
+    let v = said (c .before .before .before .repeated .ensures) (ap seenClock (c .before .again .given .1)) in rw (w .0 .is, w .1 .is, v .is))  -- returns-3
+    (λ c. let w = slash (c .before .before .before .before) in let v = said (c .before .before .repeated .ensures) (ap seenClock (c .enum-told3 .given .1)) in
     rw (w .0 .is, w .1 .is, v .is)))  -- returns-4

@@ -4,17 +4,17 @@ use mathlib.Core.Path.{ap}
 use denote.Ref.{now}
 use Rattle.names.proofs.Facts.{Went, went, Said, said}
 use Rattle.records.proofs.Anywhere.{judged-in}
+use Rattle.times.specs.Times.{Spelt}
 use Rattle.times.specs.Spans.{untilTime}
 use Rattle.times.specs.Seen.{seenTime}
-use Rattle.times.specs.declared.RawTime.{RawTime}
 use Rattle.times.proofs.spans.until_item.Statement.{statement}
 use Rattle.times.proofs.spans.until_item.Tie as tie
 
 abbrev minus : tie.After-minus → Went
 minus c = went (c .before .before .sign .ensures) (c .minus .given .1)
 
-abbrev end : tie.After-time → Went × Said RawTime
-end c = (minus (c .before .before .before .before), said (c .before .before .raw-time .ensures) (ap seenTime (c .time .given .1)))
+abbrev end : tie.After-last → Went × Said Spelt
+end c = (minus (c .before .before .before .before), said (c .before .before .time .ensures) (ap seenTime (c .last .given .1)))
 
 pub until-item-spec : {M : Type 1} → statement M
 unfolding untilTime
@@ -25,10 +25,10 @@ until-item-spec =
     (λ c. search needs)  -- enum-known-minus
     (λ c. search needs)  -- enum-told
     (λ c. λ m. rw (went (c .before .before .sign .ensures) (c .enum-told .given .1) .is))  -- returns
-    (λ c κs. search needs)  -- raw-time-requires
-    (λ c. search needs)  -- enum-known-time
+    (λ c κs. search needs)  -- time-requires
+    (λ c. search needs)  -- enum-known-last
     (λ c. search needs)  -- enum-told-2
-    (λ c. λ m. rw (minus (c .before .before .before .before) .is, said (c .before .before .raw-time .ensures) (ap seenTime (c .enum-told2 .given .1)) .is))  -- returns-2
+    (λ c. λ m. rw (minus (c .before .before .before .before) .is, said (c .before .before .time .ensures) (ap seenTime (c .enum-told2 .given .1)) .is))  -- returns-2
     (λ c κs. search needs)  -- tail-requires
     (λ c κs. search needs)  -- until-meaning-requires
     (λ c κs. search needs)  -- judged-requires

@@ -1,6 +1,4 @@
 use borrow.Author.Needs.{needs}
-use borrow.Author.Tests.{le-leb, lt-leb}
-use native.Mathlib.Omega.{arith}
 use Rattle.names.proofs.Facts.{Was, was, Went, went}
 use Rattle.times.specs.Times.{clock}
 use Rattle.times.proofs.times.clock.Statement.{statement}
@@ -23,17 +21,16 @@ clock-spec =
     (λ c κs. search needs)  -- hour-requires
     (λ c. search needs)  -- enum-known-hours
     (λ c. search needs)  -- enum-told
-    (λ c. let v = was (c .before .before .hour .ensures) (c .enum-told .given .1) in rw (v .is))  -- returns
+    (λ c. let v = was (c .before .before .hour .ensures) (c .enum-told .given .1) in record { is = rw (v .is); small = search needs })  -- returns
     (λ c κs. search needs)  -- sign-requires
     (λ c. search needs)  -- enum-known-colon
     (λ c. search needs)  -- enum-told-2
-    (λ c. let w = hours (c .before .before .before .before) in let v = went (c .before .before .sign .ensures) (c .enum-told2 .given .1) in rw (w .is, v .is))  -- returns-2
+    (λ c. let w = hours (c .before .before .before .before) in let v = went (c .before .before .sign .ensures) (c .enum-told2 .given .1) in
+    record { is = rw (w .is, v .is); small = search needs })  -- returns-2
     (λ c κs. search needs)  -- minute-requires
     (λ c. search needs)  -- enum-known-minutes
     (λ c. search needs)  -- enum-told-3
-    (λ c. let w = colon (c .before .before .before .before) in let v = was (c .before .before .minute .ensures) (c .enum-told3 .given .1) in rw (w .0 .is, w .1 .is, v .is))  -- returns-3
-    (λ c. let w = minutes (c .before .before) in rw (w .0 .0 .is, w .0 .1 .is, w .1 .is, lt-leb _ 59 (c .if1 .taken)))  -- returns-4
-    (λ c. omega (arith, minutes (c .before .before) .0 .0 .small))  -- mul-t12
-    (λ c. omega (arith, minutes (c .before .before) .0 .0 .small))  -- add-t13
-    (λ c. omega (arith, minutes (c .before .before) .0 .0 .small))  -- cast-t14
-    (λ c. let w = minutes (c .before .before) in rw (w .0 .0 .is, w .0 .1 .is, w .1 .is, le-leb _ 59 (c .if1 .left))))  -- returns-5
+    (λ c. let w = colon (c .before .before .before .before) in let v = was (c .before .before .minute .ensures) (c .enum-told3 .given .1) in
+    record { is = rw (w .0 .is, w .1 .is, v .is); small = search needs })  -- returns-3
+    (λ c κs. minutes (c .before) .0 .0 .small)  -- minutes-of-requires
+    (λ c. let w = minutes (c .before .before) in let e = c .minutes-of .ensures in record { is = rw (w .0 .0 .is, w .0 .1 .is, w .1 .is, e .0); small = e .1 }))  -- returns-4

@@ -12,7 +12,8 @@ event-time-spec =
     (tie.spec
     (λ c κs. search needs)  -- named-requires
     (λ c. search needs)  -- enum-known-name
-    (λ c. rw (event (c .before) .is))  -- returns
+    (λ c κs. search needs)  -- event-of-requires
+    (λ c. rw (event (c .before .before) .is, c .event-of .ensures))  -- returns
     (λ c. search needs)  -- enum-told
     (λ c κs. search needs)  -- event-with-offset-requires
     (λ c. rw (called (c .before .before .before .named .ensures) (c .before .enum-told .given .1) .is, c .event-with-offset .ensures)))  -- returns-2

@@ -1,9 +1,8 @@
 use borrow.Author.Needs.{needs}
 use mathlib.Core.Path.{ap}
 use Rattle.names.proofs.Facts.{Called, called, Went, went, Said, said}
-use Rattle.times.specs.Times.{eventWithOffset}
+use Rattle.times.specs.Times.{Spelt, eventWithOffset}
 use Rattle.times.specs.Seen.{seenTime}
-use Rattle.times.specs.declared.RawTime.{RawTime}
 use Rattle.times.proofs.times.event_with_offset.Statement.{statement}
 use Rattle.times.proofs.times.event_with_offset.Tie as tie
 
@@ -13,10 +12,10 @@ left c = went (c .before .before .sign .ensures) (c .left .given .1)
 abbrev event : tie.After-name → Went × Called
 event c = (left (c .before .before .before .before), called (c .before .before .named .ensures) (c .name .given .1))
 
-abbrev time : tie.After-time → (Went × Called) × Said RawTime
+abbrev time : tie.After-time → (Went × Called) × Said Spelt
 time c = (event (c .before .before .before .before), said (c .before .before .with-offset .ensures) (ap seenTime (c .time .given .1)))
 
-abbrev right : tie.After-right → ((Went × Called) × Said RawTime) × Went
+abbrev right : tie.After-right → ((Went × Called) × Said Spelt) × Went
 right c = (time (c .before .before .before .before), went (c .before .before .sign2 .ensures) (c .right .given .1))
 
 pub event-with-offset-spec : {M : Type 1} → statement M

@@ -25,7 +25,7 @@ with-offset-spec =
     (λ c κs. search needs)  -- clock-requires
     (λ c κs. search needs)  -- sun-requires
     (λ c. let a = c .before .before .before .before .before .before .before .args in let w = plus (c .before .before .before) in
-    rw (withOffset-plus (a .event, a .odd) (now (a .s)) (a .c .at) (w .is), c .before .clock .ensures) (c .sun .ensures))  -- returns
+    rw (withOffset-plus (a .event, a .odd) (now (a .s)) (a .c .at) (w .is), c .before .clock .ensures .is) (c .sun .ensures))  -- returns
     (λ c. search needs)  -- enum-told
     (λ c κs. search needs)  -- sign-requires-2
     (λ c. search needs)  -- enum-known-minus
@@ -34,4 +34,4 @@ with-offset-spec =
     (λ c κs. search needs)  -- clock-requires-2
     (λ c κs. search needs)  -- sun-requires-2
     (λ c. let a = c .before .before .before .before .before .before .before .before .before .before .args in let w = minus (c .before .before .before) in
-    rw (withOffset-minus (a .event, a .odd) (now (a .s)) (a .c .at) (w .0 .is) (w .1 .is), c .before .clock2 .ensures) (c .sun2 .ensures)))  -- returns-3
+    rw (withOffset-minus (a .event, a .odd) (now (a .s)) (a .c .at) (w .0 .is) (w .1 .is), c .before .clock2 .ensures .is) (c .sun2 .ensures)))  -- returns-3

@@ -1,9 +1,9 @@
 -- The first number that it is.
 use borrow.Author.Tests.{eq-eqb, ne-eqb}
 use Rattle.records.proofs.Laws.{half-fits}
-use Rattle.times.specs.Meanings.{eventOf}
-use Rattle.times.proofs.meanings.event_of.Statement.{statement}
-use Rattle.times.proofs.meanings.event_of.Tie as tie
+use Rattle.times.specs.Times.{eventOf}
+use Rattle.times.proofs.times.event_of.Statement.{statement}
+use Rattle.times.proofs.times.event_of.Tie as tie
 
 pub event-of-spec : {M : Type 1} → statement M
 unfolding eventOf
