@@ -74,22 +74,19 @@ fn good_until(a: Time, b: Time, t: Repeat) -> bool
 }
 
 // What a time alone in range is: a span that ends where it starts in the second edition, and else refused.
-fn alone_of(m: Manner, t: Time, odd: bool) -> Meant
-    ensures { λ x. ⌜ x ≡ meanings.aloneOf m (t, odd) ⌝ }
+fn alone_of(m: Manner, only: Time, odd: bool) -> Meant
+    ensures { λ x. ⌜ x ≡ meanings.aloneOf m (only, odd) ⌝ }
 {
     match m {
-        Manner::Second => {
-            let only = t;
-            Meant::Is(Item::Times(Span {
-                start: only,
-                end: only,
-                repeats: Repeat::Never,
-                open_end: false,
-                point: true,
-                odd_start: odd,
-                odd_end: false,
-            }))
-        }
+        Manner::Second => Meant::Is(Item::Times(Span {
+            start: only,
+            end: only,
+            repeats: Repeat::Never,
+            open_end: false,
+            point: true,
+            odd_start: odd,
+            odd_end: false,
+        })),
         _ => Meant::Refused(POINT_IN_TIME),
     }
 }
@@ -106,11 +103,10 @@ pub fn alone_meaning(m: Manner, only: Time, odd: bool) -> Meant
 }
 
 // The meaning of a time and a plus: `10:00+` ends at 24:00, open.
-pub fn open_meaning(t: Time, odd: bool) -> Meant
-    ensures { λ x. ⌜ ((m : Manner) → x ≡ meanings.spanMeaning m (Open (t, odd))) ⌝ }
+pub fn open_meaning(start: Time, odd: bool) -> Meant
+    ensures { λ x. ⌜ ((m : Manner) → x ≡ meanings.spanMeaning m (Open (start, odd))) ⌝ }
 {
-    if good_start(t) {
-        let start = t;
+    if good_start(start) {
         Meant::Is(Item::Times(Span {
             start,
             end: Time::Fixed(MIDNIGHT),
@@ -127,25 +123,23 @@ pub fn open_meaning(t: Time, odd: bool) -> Meant
 
 // The meaning of two times and what stands after the end.
 pub fn until_meaning(
-    a: Time,
-    odd: bool,
-    b: Time,
+    start: Time,
+    odd_start: bool,
+    end: Time,
     odd_end: bool,
     repeats: Repeat,
     open_end: bool,
 ) -> Meant
-    ensures { λ x. ⌜ ((m : Manner) → x ≡ meanings.spanMeaning m (Until (a, odd) (b, «odd_end») (repeats, «open_end»))) ⌝ }
+    ensures { λ x. ⌜ ((m : Manner) → x ≡ meanings.spanMeaning m (Until (start, «odd_start») (end, «odd_end») (repeats, «open_end»))) ⌝ }
 {
-    if good_until(a, b, repeats) {
-        let start = a;
-        let end = b;
+    if good_until(start, end, repeats) {
         Meant::Is(Item::Times(Span {
             start,
             end,
             repeats,
             open_end,
             point: false,
-            odd_start: odd,
+            odd_start,
             odd_end,
         }))
     } else {

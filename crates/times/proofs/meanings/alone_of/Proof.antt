@@ -13,4 +13,4 @@ alone-of-spec =
     (tie.spec
     (λ c. search needs)  -- enum-told
     (λ c. rw (c .enum-told .given .1))  -- returns
-    (λ c. let a = c .before .args in not-second (λ m. Refused 8 ≡ aloneOf m (a .t, a .odd)) refl refl (a .m) (c .match .keys2)))  -- returns-2
+    (λ c. let a = c .before .args in not-second (λ m. Refused 8 ≡ aloneOf m (a .only, a .odd)) refl refl (a .m) (c .match .keys2)))  -- returns-2
