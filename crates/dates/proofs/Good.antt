@@ -1,21 +1,17 @@
 -- What a good date item says of its parts.
 use Prim.Native.Nat.{ℕ, suc, _≤_}
 use mathlib.Core.Bool.{Bool, true, false, _&&_, and-eq-true-iff}
-use mathlib.Core.Path.{_≡_, sym, ap, _∙_}
+use mathlib.Core.Path.{_≡_}
 use native.Mathlib.Omega.{arith}
 use lib.Dec.{leb, ltb, eqb}
-use Rattle.names.specs.Tests.{if_then_else_, within}
+use Rattle.names.specs.Tests.{if_then_else_}
 use Rattle.names.proofs.Laws.{within-range}
 use Rattle.days.specs.Offsets.{goodDays}
-use Rattle.days.specs.declared.RawOffset.{RawOffset}
 use Rattle.dates.specs.BareEnds.{nextYear, yearMonth, nextMonth, monthFrom}
 use Rattle.dates.specs.Meanings.{goodYears, goodDay, goodDate, goodEnd, goodDates, yearOf}
 use Rattle.dates.specs.declared.Year.{Year}
 use Rattle.dates.specs.declared.Year.the-variants.{Absent, Given}
 use Rattle.dates.specs.declared.YearMonth.{YearMonth}
-use Rattle.dates.specs.declared.RawDate.{RawDate}
-use Rattle.dates.specs.declared.RawEnd.{RawEnd}
-use Rattle.dates.specs.declared.RawEnd.the-variants.{Until, Bare}
 use Rattle.dates.specs.declared.RawDates.{RawDates}
 
 -- a good year is at most 9999, and so is the 0 of none
@@ -42,11 +38,10 @@ from-small a d e h = go (leb d e)
     go true = omega arith
     go false = omega (arith, next-small a)
 
--- the start's year is good, and so small; its offset is good and so is the end
+-- the start's year is good, and so small; the end is good
 pub record Good (r : RawDates) : Type 0 where
   pub years : goodYears (r .date .year) ≡ true
   pub year : yearOf (r .date .year) ≤ 9999
-  pub before : goodDays (r .offset .days) ≡ true
   pub end : goodEnd (r .end) ≡ true
 
 pub dates-good : (r : RawDates) → goodDates r ≡ true → Good r
@@ -54,11 +49,4 @@ dates-good r h =
     let p = and-eq-true-iff (goodDate (r .date) && goodDays (r .offset .days)) (goodEnd (r .end)) .0 h in
     let q = and-eq-true-iff (goodDate (r .date)) (goodDays (r .offset .days)) .0 (p .0) in
     let d = and-eq-true-iff (goodYears (r .date .year)) (goodDay (r .date .day)) .0 (q .0) in
-    record { years = d .0; year = year-small (r .date .year) (d .0); before = q .1; end = p .1 }
-
--- the offset of an end that is there is good
-pub until-good : {e : RawEnd} {d : RawDate} {o : RawOffset} → goodEnd e ≡ true → e ≡ Until d o → goodDays (o .days) ≡ true
-until-good {d = d} {o} h q = and-eq-true-iff (goodDate d) (goodDays (o .days)) .0 (sym (ap goodEnd q) ∙ h) .1
-
-pub bare-good : {e : RawEnd} {n : ℕ} {o : RawOffset} → goodEnd e ≡ true → e ≡ Bare n o → goodDays (o .days) ≡ true
-bare-good {n = n} {o} h q = and-eq-true-iff (within 1 31 n) (goodDays (o .days)) .0 (sym (ap goodEnd q) ∙ h) .1
+    record { years = d .0; year = year-small (r .date .year) (d .0); end = p .1 }

@@ -14,7 +14,7 @@ use Rattle.records.specs.declared.Odd.{Odd}
 use Rattle.records.specs.declared.Item.the-variants.{Dates, Months}
 use Rattle.records.specs.declared.Meant.{Meant}
 use Rattle.records.specs.declared.Meant.the-variants.{Is, Refused}
-use Rattle.days.specs.Offsets.{goodDays, daysOf}
+use Rattle.days.specs.Offsets.{goodDays}
 use Rattle.days.specs.declared.RawOffset.{RawOffset}
 use Rattle.dates.specs.Years.{goodYear}
 use Rattle.dates.specs.BareEnds.{dateOf, yearMonth, bareEnd, lastDay}
@@ -71,7 +71,7 @@ dated d = dateOf (yearOf d.year) d.day
 
 -- an offset in range
 abbrev pub offsetOf : RawOffset → DateOffset
-offsetOf o = record { wday = o.wday; days = daysOf o.days }
+offsetOf o = record { wday = o.wday; days = o.days }
 
 -- no offset
 abbrev pub noOffset : DateOffset

@@ -1,6 +1,5 @@
 // What dates and months mean.
 ghost use Prim.Native.Nat.{_≤_};
-ghost use mathlib.Core.Bool.{true};
 ghost use mathlib.Core.Path.{_≡_};
 ghost use Rattle.days.specs.Offsets.{goodDays};
 ghost use Rattle.dates.specs.Meanings as meanings;
@@ -12,6 +11,7 @@ use crate::Year;
 use crate::YearMonth;
 use crate::bare_ends::bare_end;
 use crate::bare_ends::last_day;
+use days::OUT_OF_RANGE;
 use days::RawOffset;
 use names::EASTER_DAY;
 use names::RANGE;
@@ -24,7 +24,6 @@ use records::Item;
 use records::Meant;
 use records::MonthSpan;
 use records::Odd;
-use records::signed;
 
 // A year that is there is in range.
 fn good_years(y: Year) -> bool
@@ -82,8 +81,7 @@ fn good_date(d: RawDate) -> bool
 fn good_offset(o: RawOffset) -> bool
     ensures { λ r. ⌜ r ≡ goodDays (o .days) ⌝ }
 {
-    let d = o.days;
-    d.n <= 32767
+    OUT_OF_RANGE < o.days
 }
 
 // An end in range.
@@ -140,13 +138,12 @@ fn dated(d: RawDate) -> Date
 
 // An offset in range.
 fn offset_of(o: RawOffset) -> DateOffset
-    requires { ⌜ goodDays (o .days) ≡ true ⌝ }
     ensures { λ r. ⌜ r ≡ meanings.offsetOf o ⌝ }
 {
-    let wday = o.wday;
-    let d = o.days;
-    let days = signed(d.negative, d.n as u16);
-    DateOffset { wday, days }
+    DateOffset {
+        wday: o.wday,
+        days: o.days,
+    }
 }
 
 // Which names of a date and its offset call for a warning.
@@ -236,7 +233,6 @@ fn bare(
 // From a start to each kind of end: no end is the start with its offset.
 fn ended(start: Date, before: DateOffset, odd: Odd, end: RawEnd) -> Meant
     requires { ⌜ start .year ≤ 9999 ⌝ }
-    requires { ⌜ meanings.goodEnd end ≡ true ⌝ }
     ensures { λ r. ⌜ r ≡ meanings.ended start before odd end ⌝ }
 {
     match end {

@@ -14,16 +14,16 @@ use Rattle.names.proofs.Chains.{many-local}
 use Rattle.names.proofs.NameCut.{name-local}
 use Rattle.names.proofs.Odd.{named-local}
 use lib.IntN.{ℤ}
+use Rattle.records.specs.declared.Holiday.{Holiday}
 use Rattle.records.specs.declared.Item.the-variants.{Holidays}
 use Rattle.records.specs.declared.Meant.the-variants.{Is, Refused}
 use Rattle.records.proofs.Cut.{Alike, Refuses, refuses-if, item-alike}
-use Rattle.days.specs.Offsets.{plusOrMinus, dayOffset, noDays, anyDays, wdayOffset, offset, goodDays, daysOf}
+use Rattle.days.specs.Offsets.{plusOrMinus, dayOffset, noDays, anyDays, wdayOffset, offset, goodDays}
 use Rattle.days.specs.Entries.{backEntry, frontEntry, entry, nextEntry, noMarks, entries, bits}
 use Rattle.days.specs.Weekdays.{Weekday, again, lastWeekday, bracketed, untilWeekday, withEntries, narrowAfter, wideAfter, weekdayAfter, weekdayShape, weekdaysOf, flagged}
 use Rattle.days.specs.Weekdays.{weekdayMeaning, weekdayItem}
 use Rattle.days.specs.Holidays.{holidayAfter, holidayShape, holidayMeaning, holidayItem}
 use Rattle.days.specs.declared.RawWeekdays.{RawWeekdays}
-use Rattle.days.specs.declared.RawHoliday.{RawHoliday}
 
 module _ {u : List ℕ} where
   pub plusOrMinus-alike : Alike u 1 plusOrMinus
@@ -117,12 +117,12 @@ flagged-refuses first last days starts ends = refuses-if (eqb starts 0 && eqb en
 pub weekday-refuses : (r : RawWeekdays) → Refuses (weekdayMeaning r)
 unfolding weekdayMeaning
 weekday-refuses r =
-    refuses-if (not (r.marks .good && goodDays r.days)) (Refused 4) (flagged (r.first, r.«odd_first») (r.last, r.«odd_last») (daysOf r.days) (bits (r.marks .starts)) (bits (r.marks .ends)))
+    refuses-if (not (r.marks .good && goodDays r.days)) (Refused 4) (flagged (r.first, r.«odd_first») (r.last, r.«odd_last») r.days (bits (r.marks .starts)) (bits (r.marks .ends)))
     (omega arith) (flagged-refuses _ _ _ _ _)
 
-pub holiday-refuses : (r : RawHoliday) → Refuses (holidayMeaning r)
+pub holiday-refuses : (h : Holiday) → Refuses (holidayMeaning h)
 unfolding holidayMeaning
-holiday-refuses r = refuses-if (not (goodDays r.days)) (Refused 4) (Is (Holidays (record { kind = r.kind; days = daysOf r.days }))) (omega arith) tt
+holiday-refuses h = refuses-if (not (goodDays h.days)) (Refused 4) (Is (Holidays h)) (omega arith) tt
 
 -- the items
 module _ {u : List ℕ} where

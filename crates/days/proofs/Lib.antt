@@ -1,4 +1,5 @@
 pub mod Cut
 pub mod Laws
 pub mod OneAnswer
+pub mod Ranges
 pub mod Examples

@@ -6,28 +6,28 @@ use Rattle.names.specs.Read.{Reader, pure, _>>=_}
 use Rattle.names.specs.Names.{name, holiday}
 use Rattle.names.specs.Refusals.{range}
 use Rattle.records.specs.Items.{item, meant}
+use Rattle.records.specs.declared.Holiday.{Holiday}
 use Rattle.records.specs.declared.Item.{Item}
 use Rattle.records.specs.declared.Item.the-variants.{Holidays}
 use Rattle.records.specs.declared.Meant.{Meant}
 use Rattle.records.specs.declared.Meant.the-variants.{Is, Refused}
-use Rattle.days.specs.Offsets.{anyDays, goodDays, daysOf}
-use Rattle.days.specs.declared.RawHoliday.{RawHoliday}
+use Rattle.days.specs.Offsets.{anyDays, goodDays}
 
 -- the shape after the name
-unfoldable pub holidayAfter : ℕ → Reader RawHoliday
+unfoldable pub holidayAfter : ℕ → Reader Holiday
 holidayAfter kind = do
   d ← anyDays
   pure (record { kind = kind; days = d })
 
 -- the shape
-unfoldable pub holidayShape : Reader RawHoliday
+unfoldable pub holidayShape : Reader Holiday
 holidayShape = do
   kind ← name holiday
   holidayAfter kind
 
 -- the meaning
-unfoldable pub holidayMeaning : RawHoliday → Meant
-holidayMeaning r = if not (goodDays r.days) then Refused range else Is (Holidays (record { kind = r.kind; days = daysOf r.days }))
+unfoldable pub holidayMeaning : Holiday → Meant
+holidayMeaning h = if not (goodDays h.days) then Refused range else Is (Holidays h)
 
 -- a holiday item
 unfoldable pub holidayItem : Reader Item

@@ -4,7 +4,6 @@ use Prim.Native.Nat.{ℕ}
 use Rattle.names.specs.Read.{Read, got, none}
 use lib.IntN.{ℤ}
 use Rattle.records.specs.declared.Meant.{Meant}
-use Rattle.days.specs.declared.RawDays.{RawDays}
 use Rattle.days.specs.declared.RawOffset.{RawOffset}
 use Rattle.days.specs.declared.Entry.{Entry}
 use Rattle.days.specs.declared.Marks.{Marks}
@@ -31,7 +30,7 @@ abbrev pub seenSign : SignRead → Read Bool
 seenSign (sign.Got x c) = got x (c .at)
 seenSign sign.Missing = none
 
-abbrev pub seenDays : DaysRead → Read RawDays
+abbrev pub seenDays : DaysRead → Read ℤ
 seenDays (days.Got x c) = got x (c .at)
 seenDays days.Missing = none
 
@@ -55,7 +54,7 @@ seenWeekdays weekdays.Missing = none
 abbrev pub thenOffset : OffsetThen → Read RawOffset
 thenOffset r = got r.offset (r.next .at)
 
-abbrev pub thenDays : DaysThen → Read RawDays
+abbrev pub thenDays : DaysThen → Read ℤ
 thenDays r = got r.days (r.next .at)
 
 abbrev pub thenWeekdays : WeekdaysThen → Read Meant

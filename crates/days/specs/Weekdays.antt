@@ -16,9 +16,8 @@ use Rattle.records.specs.declared.Item.{Item}
 use Rattle.records.specs.declared.Item.the-variants.{Weekdays}
 use Rattle.records.specs.declared.Meant.{Meant}
 use Rattle.records.specs.declared.Meant.the-variants.{Is, Refused}
-use Rattle.days.specs.Offsets.{noDays, anyDays, goodDays, daysOf}
+use Rattle.days.specs.Offsets.{noDays, anyDays, goodDays}
 use Rattle.days.specs.Entries.{noMarks, entries, bits}
-use Rattle.days.specs.declared.RawDays.{RawDays}
 use Rattle.days.specs.declared.Marks.{Marks}
 use Rattle.days.specs.declared.RawWeekdays.{RawWeekdays}
 
@@ -31,7 +30,7 @@ abbrev pub again : Weekday → Weekday
 again w = (w .0, false)
 
 -- weekdays as they are read
-abbrev pub rawWeekdays : Weekday → Weekday → Marks → RawDays → RawWeekdays
+abbrev pub rawWeekdays : Weekday → Weekday → Marks → ℤ → RawWeekdays
 rawWeekdays first last marks days =
     record { first = first .0; last = last .0; marks = marks; days = days; «odd_first» = first .1; «odd_last» = last .1 }
 
@@ -103,7 +102,7 @@ flagged first last days starts ends = if eqb starts 0 && eqb ends 0 then weekday
 unfoldable pub weekdayMeaning : RawWeekdays → Meant
 weekdayMeaning r =
     if not (r.marks .good && goodDays r.days) then Refused range
-    else flagged (r.first, r.«odd_first») (r.last, r.«odd_last») (daysOf r.days) (bits (r.marks .starts)) (bits (r.marks .ends))
+    else flagged (r.first, r.«odd_first») (r.last, r.«odd_last») r.days (bits (r.marks .starts)) (bits (r.marks .ends))
 
 -- a weekday item
 unfoldable pub weekdayItem : Manner → Reader Item

@@ -2,7 +2,7 @@
 ghost use mathlib.Core.Path.{_≡_};
 ghost use Rattle.records.specs.Seen.{seenItem};
 ghost use Rattle.days.specs.Holidays as holidays;
-use crate::RawHoliday;
+use crate::offsets::OUT_OF_RANGE;
 use crate::offsets::any_days;
 use names::Cursor;
 use names::HOLIDAY;
@@ -13,16 +13,13 @@ use records::Item;
 use records::ItemRead;
 use records::Meant;
 use records::judged;
-use records::signed;
 
 // The meaning.
-fn holiday_meaning(r: RawHoliday) -> Meant
-    ensures { λ x. ⌜ x ≡ holidays.holidayMeaning r ⌝ }
+fn holiday_meaning(h: Holiday) -> Meant
+    ensures { λ r. ⌜ r ≡ holidays.holidayMeaning h ⌝ }
 {
-    let d = r.days;
-    if d.n <= 32767 {
-        let days = signed(d.negative, d.n as u16);
-        Meant::Is(Item::Holidays(Holiday { kind: r.kind, days }))
+    if OUT_OF_RANGE < h.days {
+        Meant::Is(Item::Holidays(h))
     } else {
         Meant::Refused(RANGE)
     }
@@ -35,7 +32,7 @@ pub fn holiday_item_after(s: &[u8], p: usize, c: Cursor, kind: u8) -> ItemRead
     let then = any_days(s, c);
     let days = then.days;
     let next = then.next;
-    judged(p, holiday_meaning(RawHoliday { kind, days }), next)
+    judged(p, holiday_meaning(Holiday { kind, days }), next)
 }
 
 // A holiday item.

@@ -7,22 +7,17 @@ mod weekdays;
 pub use holidays::holiday_item;
 pub use holidays::holiday_item_after;
 use names::Cursor;
+pub use offsets::OUT_OF_RANGE;
 pub use offsets::day_offset;
 pub use offsets::offset;
 use records::Meant;
 pub use weekdays::weekday_item;
 pub use weekdays::weekday_item_after;
 
-// A number of days as it is read.
-pub struct RawDays {
-    pub negative: bool,
-    pub n: u32,
-}
-
 // An offset as it is read: a weekday to go to, the previous where it is below 0, 0 none; a number of days; and whether the weekday's name calls for a warning.
 pub struct RawOffset {
     pub wday: i16,
-    pub days: RawDays,
+    pub days: i16,
     pub odd: bool,
 }
 
@@ -54,15 +49,9 @@ pub struct RawWeekdays {
     pub first: u8,
     pub last: u8,
     pub marks: Marks,
-    pub days: RawDays,
+    pub days: i16,
     pub odd_first: bool,
     pub odd_last: bool,
-}
-
-// A holiday as it is read.
-pub struct RawHoliday {
-    pub kind: u8,
-    pub days: RawDays,
 }
 
 // A plus, or a minus, and the place after it; or neither.
@@ -73,7 +62,7 @@ pub enum SignRead {
 
 // What reading a day offset finds.
 pub enum DaysRead {
-    Got(RawDays, Cursor),
+    Got(i16, Cursor),
     Missing,
 }
 
@@ -91,7 +80,7 @@ pub struct OffsetThen {
 
 // A day offset, which may be none, and the place after it.
 pub struct DaysThen {
-    pub days: RawDays,
+    pub days: i16,
     pub next: Cursor,
 }
 

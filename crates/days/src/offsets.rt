@@ -5,7 +5,6 @@ ghost use Rattle.days.specs.Seen.{seenSign, seenDays, seenWday, thenDays
 use crate::DaysRead;
 use crate::DaysThen;
 use crate::OffsetThen;
-use crate::RawDays;
 use crate::RawOffset;
 use crate::SignRead;
 use crate::WdayRead;
@@ -16,6 +15,12 @@ use names::Num;
 use names::Step;
 use names::WEEKDAY;
 use records::signed;
+
+// N goes from 0 to 32,767.
+const MOST_DAYS: u32 = 32767;
+
+// What is read where N is above 32,767: no number of days in range.
+pub const OUT_OF_RANGE: i16 = -32768;
 
 // A plus or a minus: whether it is a minus.
 fn plus_or_minus(s: &[u8], c: Cursor) -> SignRead
@@ -30,6 +35,17 @@ fn plus_or_minus(s: &[u8], c: Cursor) -> SignRead
         return SignRead::Missing;
     };
     SignRead::Got(true, e)
+}
+
+// Days that are added, or taken off. A shape is read whatever its number, and judged after that.
+fn days_of(negative: bool, n: u32) -> i16
+    ensures { λ r. ⌜ r ≡ offsets.daysOf negative n ⌝ }
+{
+    if n <= MOST_DAYS {
+        signed(negative, n as u16)
+    } else {
+        OUT_OF_RANGE
+    }
 }
 
 // Day offset: blank, sign, `N`, blank, `day` or `days`.
@@ -56,7 +72,7 @@ pub fn day_offset(s: &[u8], c: Cursor) -> DaysRead
     let Num::Got(_, h) = name else {
         return DaysRead::Missing;
     };
-    DaysRead::Got(RawDays { negative, n }, h)
+    DaysRead::Got(days_of(negative, n), h)
 }
 
 // A day offset, or none.
@@ -66,13 +82,7 @@ pub fn any_days(s: &[u8], c: Cursor) -> DaysThen
     let some = day_offset(s, c);
     match some {
         DaysRead::Got(days, d) => DaysThen { days, next: d },
-        DaysRead::Missing => DaysThen {
-            days: RawDays {
-                negative: false,
-                n: 0,
-            },
-            next: c,
-        },
+        DaysRead::Missing => DaysThen { days: 0, next: c },
     }
 }
 

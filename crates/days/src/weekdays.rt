@@ -18,6 +18,7 @@ use crate::WeekdaysThen;
 use crate::entries::bits;
 use crate::entries::entries;
 use crate::entries::no_marks;
+use crate::offsets::OUT_OF_RANGE;
 use crate::offsets::any_days;
 use names::Cursor;
 use names::Manner;
@@ -31,7 +32,6 @@ use records::ItemRead;
 use records::Meant;
 use records::WeekDayRange;
 use records::judged;
-use records::signed;
 
 // All five flags.
 const ALL: u8 = 31;
@@ -246,12 +246,11 @@ fn weekday_meaning(r: RawWeekdays) -> Meant
     ensures { λ x. ⌜ x ≡ weekdays.weekdayMeaning r ⌝ }
 {
     let m = r.marks;
-    let d = r.days;
+    let days = r.days;
     if m.good {
-        if d.n <= 32767 {
+        if OUT_OF_RANGE < days {
             let starts = m.starts;
             let ends = m.ends;
-            let days = signed(d.negative, d.n as u16);
             flagged(
                 r.first,
                 r.last,

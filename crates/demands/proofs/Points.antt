@@ -16,18 +16,18 @@ use Rattle.names.specs.Names as names
 use Rattle.names.specs.Spellings.{oddFrom, named, spelled}
 use Rattle.names.specs.declared.Manner.the-variants.{Second}
 use Rattle.records.specs.Items.{judged, meant, item}
+use Rattle.records.specs.declared.Holiday.{Holiday}
 use Rattle.records.specs.declared.Meant.{Meant}
 use Rattle.records.specs.declared.Meant.the-variants.{Is, Refused}
 use Rattle.times.specs.Times.{clock, Event, Spelt, withOffset, eventWithOffset, time}
 use Rattle.times.specs.Spans.{repeated, tail, untilTime, spanAfter, spanShape, timeItem}
 use Rattle.times.specs.Meanings.{goodSpan, spanOf, spanMeaning}
 use Rattle.times.specs.Shapes.{RawSpan, Alone, Open, Until}
-use Rattle.days.specs.Offsets.{plusOrMinus, dayOffset, anyDays, wdayOffset, offset, goodDays, daysOf}
+use Rattle.days.specs.Offsets.{plusOrMinus, dayOffset, anyDays, wdayOffset, offset, goodDays}
 use Rattle.days.specs.Entries.{backEntry, frontEntry, entry, nextEntry, entries, bits}
 use Rattle.days.specs.Weekdays.{Weekday, again, lastWeekday, bracketed, wideAfter, weekdayShape, flagged, weekdayMeaning, weekdayItem}
 use Rattle.days.specs.Holidays.{holidayAfter, holidayShape, holidayMeaning, holidayItem}
 use Rattle.days.specs.declared.RawWeekdays.{RawWeekdays}
-use Rattle.days.specs.declared.RawHoliday.{RawHoliday}
 
 -- ---- what a reading tells
 
@@ -316,7 +316,7 @@ weekdayShape-tells = then-tells (named-tells weekday) wideAfter-tells
 weekday-other : (r : RawWeekdays) → OtherMeant (weekdayMeaning r)
 unfolding weekdayMeaning flagged
 weekday-other r =
-    other-if (not (r.marks .good && goodDays r.days)) (Refused 4) (flagged (r.first, r.«odd_first») (r.last, r.«odd_last») (daysOf r.days) (bits (r.marks .starts)) (bits (r.marks .ends)))
+    other-if (not (r.marks .good && goodDays r.days)) (Refused 4) (flagged (r.first, r.«odd_first») (r.last, r.«odd_last») r.days (bits (r.marks .starts)) (bits (r.marks .ends)))
     (λ e. omega arith)
     (other-if (eqb (bits (r.marks .starts)) 0 && eqb (bits (r.marks .ends)) 0) _ _ tt tt)
 
@@ -332,9 +332,9 @@ holidayShape-tells : Tells holidayShape
 unfolding holidayShape
 holidayShape-tells = then-tells (name-tells holiday) holidayAfter-tells
 
-holiday-other : (r : RawHoliday) → OtherMeant (holidayMeaning r)
+holiday-other : (h : Holiday) → OtherMeant (holidayMeaning h)
 unfolding holidayMeaning
-holiday-other r = other-if (not (goodDays r.days)) (Refused 4) _ (λ e. omega arith) tt
+holiday-other h = other-if (not (goodDays h.days)) (Refused 4) _ (λ e. omega arith) tt
 
 pub holidayItem-tells : Tells holidayItem
 unfolding holidayItem

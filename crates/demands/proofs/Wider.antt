@@ -7,6 +7,7 @@ use mathlib.Core.Path.{_≡_, refl, sym, _∙_}
 use native.Mathlib.Omega.{arith}
 use borrow.Author.Tests.{eqb-true}
 use lib.Dec.{eqb, ltb}
+use lib.IntN.{ℤ}
 use lib.ListN.{length, getD}
 use Rattle.names.specs.Tests.{if_then_else_}
 use Rattle.names.specs.Read.{Read, got, none, refused, Reader, follow, nothing, pure, when, one}
@@ -28,7 +29,6 @@ use Rattle.times.specs.Shapes.{RawSpan, Alone, Open, Until}
 use Rattle.days.specs.Offsets.{plusOrMinus, dayOffset, noDays, anyDays}
 use Rattle.days.specs.Entries.{noMarks}
 use Rattle.days.specs.Weekdays.{Weekday, again, rawWeekdays, plain, lastWeekday, bracketed, untilWeekday, withEntries, narrowAfter, wideAfter, weekdayAfter, weekdayShape, weekdayMeaning, weekdayItem}
-use Rattle.days.specs.declared.RawDays.{RawDays}
 use Rattle.days.specs.declared.RawWeekdays.{RawWeekdays}
 use Rattle.days.specs.declared.Marks.{Marks}
 
@@ -139,7 +139,7 @@ module _ (s : List ℕ) where
   after-wide first i = go (lastWeekday s i) refl
     where
       -- after entries both read days
-      days : (m : Marks) (j : ℕ) (r : Read RawDays) →
+      days : (m : Marks) (j : ℕ) (r : Read ℤ) →
           Wide {A = RawWeekdays} DeadAfter (follow s i (follow s j (follow s j r pure (pure noDays)) (λ d. pure (rawWeekdays first (again first) m d)) nothing) pure (pure
           (plain first (again first)))) (follow s j (follow s j r pure (pure noDays)) (λ d. pure (rawWeekdays first (again first) m d)) nothing)
       days m j (got d k) = same

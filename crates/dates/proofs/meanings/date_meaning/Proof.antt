@@ -20,9 +20,9 @@ date-meaning-spec =
     (tie.spec
     (λ c κs. search needs)  -- good-dates-requires
     (λ c κs. search needs)  -- dated-requires
-    (λ c κs. parts (c .before .before .before) .before)  -- offset-of-requires
+    (λ c κs. search needs)  -- offset-of-requires
     (λ c κs. search needs)  -- odd-of-requires
-    (λ c κs. let p = parts (c .before .before .before .before .before) in (rw (c .before .before .dated .ensures) (p .year), p .end))  -- ended-requires
+    (λ c κs. let p = parts (c .before .before .before .before .before) in rw (c .before .before .dated .ensures) (p .year))  -- ended-requires
     (λ c. let o = c .before in
     rw (good (o .before .before .before .before .before), ← o .before .before .dated .ensures, ← o .before .offset-of .ensures, ← o .odd-of .ensures) (c .ended .ensures))  -- returns
     (λ c. rw (sym (c .before .good-dates .ensures) ∙ c .if1 .left)))  -- returns-2

@@ -1,5 +1,4 @@
 use borrow.Author.Needs.{needs}
-use Rattle.dates.proofs.Good.{until-good, bare-good}
 use Rattle.dates.proofs.meanings.ended.Statement.{statement}
 use Rattle.dates.proofs.meanings.ended.Tie as tie
 
@@ -16,11 +15,11 @@ ended-spec =
     (λ c κs. search needs)  -- dates-of-requires-2
     (λ c. search needs)  -- enum-known-end
     (λ c κs. search needs)  -- dated-requires
-    (λ c κs. until-good (c .before .before .before .before .pre .1) (c .before .before .end .given .1))  -- offset-of-requires
+    (λ c κs. search needs)  -- offset-of-requires
     (λ c κs. search needs)  -- odd-of-requires
     (λ c κs. search needs)  -- dates-of-requires-3
     (λ c. search needs)  -- enum-known-end-2
-    (λ c κs. bare-good (c .before .before .before .pre .1) (c .before .end2 .given .1))  -- offset-of-requires-2
+    (λ c κs. search needs)  -- offset-of-requires-2
     (λ c κs. search needs)  -- bare-odd-requires
     (λ c κs. search needs)  -- bare-requires
     (λ c. rw (c .before .before .enum-told .given .1, ← c .before .no-odd .ensures) (c .dates-of .ensures))  -- returns

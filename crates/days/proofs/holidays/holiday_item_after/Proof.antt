@@ -1,6 +1,7 @@
 use borrow.Author.Needs.{needs}
 use Rattle.days.specs.Holidays.{holidayAfter, holidayMeaning, holidayItemAfter}
 use Rattle.records.proofs.Anywhere.{meant-is}
+use Rattle.records.proofs.Laws.{half-fits}
 use Rattle.days.proofs.holidays.holiday_item_after.Statement.{statement}
 use Rattle.days.proofs.holidays.holiday_item_after.Tie as tie
 
@@ -12,6 +13,6 @@ holiday-item-after-spec =
     (λ c κs. search needs)  -- any-days-requires
     (λ c κs. search needs)  -- holiday-meaning-requires
     (λ c κs. search needs)  -- judged-requires
-    (λ c. meant-is (c .before .before .before .before .before .before .args .p) (holidayAfter
-    (c .before .before .before .before .before .before .args .kind)) holidayMeaning (rw (c .before .before .before .before .any-days .ensures))
+    (λ c. let d = c .before .before .before .before in let a = d .before .before .args in
+    meant-is (a .p) (holidayAfter (a .kind)) holidayMeaning (rw (d .any-days .ensures, half-fits (d .any-days .result .days) (search needs)))
     (c .before .holiday-meaning .ensures) (c .judged .ensures)))  -- returns

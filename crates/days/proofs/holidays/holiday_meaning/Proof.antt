@@ -1,5 +1,4 @@
 use borrow.Author.Needs.{needs}
-use borrow.Author.Tests.{le-leb, lt-leb}
 use Rattle.records.proofs.Laws.{half-fits}
 use Rattle.days.specs.Holidays.{holidayMeaning}
 use Rattle.days.proofs.holidays.holiday_meaning.Statement.{statement}
@@ -10,7 +9,5 @@ unfolding holidayMeaning
 holiday-meaning-spec =
     tie.close
     (tie.spec
-    (λ c. search needs)  -- cast-signed
-    (λ c κs. search needs)  -- signed-requires
-    (λ c. rw (le-leb _ 32767 (c .before .before .if1 .taken), half-fits (c .signed .result) (c .signed .ok), c .signed .ensures))  -- returns
-    (λ c. rw (lt-leb _ 32767 (c .if1 .left))))  -- returns-2
+    (λ c. rw (rw (half-fits (c .before .before .before .args .h .days) (search needs)) at (c .if1 .taken)))  -- returns
+    (λ c. rw (rw (half-fits (c .before .before .before .args .h .days) (search needs)) at (c .if1 .left))))  -- returns-2

@@ -2,6 +2,7 @@ use borrow.Author.Needs.{needs}
 use mathlib.Core.Bool.{Bool}
 use mathlib.Core.Path.{ap}
 use Rattle.names.proofs.Facts.{Was, was, Went, went, Said, said}
+use Rattle.records.proofs.Laws.{half-fits}
 use Rattle.days.specs.Offsets.{dayOffset}
 use Rattle.days.specs.Seen.{seenSign}
 use Rattle.days.proofs.offsets.day_offset.Statement.{statement}
@@ -45,5 +46,14 @@ day-offset-spec =
     (λ c. search needs)  -- enum-known-name
     (λ c. search needs)  -- enum-told-5
     (λ c. let w = after (c .before .before .before .before) in rw (w .0 .is, w .1 .is, w .2 .is, w .3 .is, was (c .before .before .name .ensures) (c .enum-told5 .given .1) .is))  -- returns-5
-    (λ c. let w = after (c .before .before .before .before .before) in
-    rw (w .0 .is, w .1 .is, w .2 .is, w .3 .is, was (c .before .before .before .name .ensures) (c .before .name2 .given .1) .is)))  -- returns-6
+    (λ c κs. search needs)  -- days-of-requires
+    (λ c. let w = after (c .before .before .before .before .before .before) in
+    rw (
+      w .0 .is,
+      w .1 .is,
+      w .2 .is,
+      w .3 .is,
+      was (c .before .before .before .before .name .ensures) (c .before .before .name2 .given .1) .is,
+      half-fits (c .days-of .result) (c .days-of .ok),
+      c .days-of .ensures,
+    )))  -- returns-6

@@ -22,9 +22,11 @@ offset-spec =
           (c .before .before .before .before .first .given .1)) .is,
       c .before .before .any-days .ensures,
       half-fits (c .before .before .before .before .first .given .0 .0) (search needs),
+      half-fits (c .before .before .any-days .result .days) (search needs),
     ))  -- returns
     (λ c. rw (
       said (c .before .before .before .before .before .wday-offset .ensures) (ap seenWday
           (c .before .before .before .enum-told .given .1)) .is,
       c .before .before .any-days2 .ensures,
+      half-fits (c .before .before .any-days2 .result .days) (search needs),
     )))  -- returns-2

@@ -1,6 +1,7 @@
 use borrow.Author.Needs.{needs}
 use mathlib.Core.Path.{ap}
 use Rattle.names.proofs.Facts.{Said, said}
+use Rattle.records.proofs.Laws.{half-fits}
 use Rattle.days.specs.Weekdays.{withEntries}
 use Rattle.days.specs.Seen.{seenMarks}
 use Rattle.days.specs.declared.Marks.{Marks}
@@ -20,4 +21,4 @@ with-entries-spec =
     (λ c. search needs)  -- enum-told
     (λ c. rw (said (c .before .before .bracketed .ensures) (ap seenMarks (c .enum-told .given .1)) .is))  -- returns
     (λ c κs. search needs)  -- any-days-requires
-    (λ c. rw (inner (c .before .before .before .before) .is, c .before .before .any-days .ensures)))  -- returns-2
+    (λ c. let d = c .before .before in rw (inner (d .before .before) .is, d .any-days .ensures, half-fits (d .any-days .result .days) (search needs))))  -- returns-2
