@@ -187,11 +187,10 @@ fn year_first(s: &[u8], c: Cursor, set: u16) -> Stands
 fn time(s: &[u8], m: Manner, c: Cursor, set: u16) -> Stands
     ensures { λ r. ⌜ Finds (itemIn m (picked set (Times ∷ [])) (now (s .entry)) (c .at)) r ⌝ }
 {
-    if has(set, TIMES) {
-        found(s, c, time_item(s, m, c), Kind::Times)
-    } else {
-        Stands::Nothing
+    if !has(set, TIMES) {
+        return Stands::Nothing;
     }
+    found(s, c, time_item(s, m, c), Kind::Times)
 }
 
 // A time or a week's number at c.

@@ -32,21 +32,21 @@ nextMidnight = 2880
 abbrev pub near : ℤ → Bool
 near m = leZ (signed true midnight) m && leZ m (signed false midnight)
 
--- a start in range: hour 0 to 23 with 24:00 besides, so up to 24:00; the same for what is added to an event, or taken off
-abbrev pub goodStart : Time → Bool
-goodStart (Fixed c) = leb c midnight
-goodStart (Dawn m) = near m
-goodStart (Sunrise m) = near m
-goodStart (Sunset m) = near m
-goodStart (Dusk m) = near m
+-- a time in range: a clock time up to the last one; what is added to an event, or taken off, is near
+abbrev pub goodTime : ℕ → Time → Bool
+goodTime last (Fixed c) = leb c last
+goodTime last (Dawn m) = near m
+goodTime last (Sunrise m) = near m
+goodTime last (Sunset m) = near m
+goodTime last (Dusk m) = near m
 
--- an end in range: a clock time up to 48:00, an event as at the start
+-- a start in range: hour 0 to 23 with 24:00 besides, so up to 24:00
+abbrev pub goodStart : Time → Bool
+goodStart = goodTime midnight
+
+-- an end in range: up to 48:00
 abbrev pub goodEnd : Time → Bool
-goodEnd (Fixed c) = leb c nextMidnight
-goodEnd (Dawn m) = near m
-goodEnd (Sunrise m) = near m
-goodEnd (Sunset m) = near m
-goodEnd (Dusk m) = near m
+goodEnd = goodTime nextMidnight
 
 -- a repeat in range: MM 0 to 59, hour 0 to 23, so below 24:00
 abbrev pub goodRepeat : Repeat → Bool

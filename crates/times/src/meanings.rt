@@ -32,24 +32,28 @@ fn near(m: i16) -> bool
     if BACK <= m { m <= AHEAD } else { false }
 }
 
+// A time in range: a clock time up to the last one, an event with up to 24:00 added or taken off.
+fn good_time(last: u16, t: Time) -> bool
+    ensures { λ r. ⌜ r ≡ meanings.goodTime last t ⌝ }
+{
+    match t {
+        Time::Fixed(c) => c <= last,
+        Time::Dawn(c) | Time::Sunrise(c) | Time::Sunset(c) | Time::Dusk(c) => near(c),
+    }
+}
+
 // A start in range.
 fn good_start(t: Time) -> bool
     ensures { λ r. ⌜ r ≡ meanings.goodStart t ⌝ }
 {
-    match t {
-        Time::Fixed(c) => c <= MIDNIGHT,
-        Time::Dawn(c) | Time::Sunrise(c) | Time::Sunset(c) | Time::Dusk(c) => near(c),
-    }
+    good_time(MIDNIGHT, t)
 }
 
 // An end in range.
 fn good_end(t: Time) -> bool
     ensures { λ r. ⌜ r ≡ meanings.goodEnd t ⌝ }
 {
-    match t {
-        Time::Fixed(c) => c <= NEXT_MIDNIGHT,
-        Time::Dawn(c) | Time::Sunrise(c) | Time::Sunset(c) | Time::Dusk(c) => near(c),
-    }
+    good_time(NEXT_MIDNIGHT, t)
 }
 
 // A repeat in range.

@@ -1,4 +1,5 @@
 use borrow.Author.Needs.{needs}
+use borrow.Author.Tests.{not-true, not-false}
 use mathlib.Core.Path.{sym, _∙_}
 use Rattle.items.specs.Kinds.{itemOf}
 use Rattle.items.specs.Sets.{bitOf}
@@ -14,8 +15,8 @@ time-spec =
     tie.close
     (tie.spec
     (λ c κs. search needs)  -- has-requires
+    (λ c. pick-not _ _ _ _ Times (sym (c .before .has .ensures) ∙ not-true _ (c .if1 .taken)))  -- returns
     (λ c κs. search needs)  -- time-item-requires
     (λ c κs. search needs)  -- found-requires
     (λ c. let d = c .before in let h = d .before in
-    finds-one _ _ _ _ Times (c .found .result) (sym (h .before .has .ensures) ∙ h .if1 .taken) (item-at _ _ (d .time-item .ensures)) (c .found .ensures))  -- returns
-    (λ c. pick-not _ _ _ _ Times (sym (c .before .has .ensures) ∙ c .if1 .left)))  -- returns-2
+    finds-one _ _ _ _ Times (c .found .result) (sym (h .before .has .ensures) ∙ not-false _ (h .if1 .left)) (item-at _ _ (d .time-item .ensures)) (c .found .ensures)))  -- returns-2

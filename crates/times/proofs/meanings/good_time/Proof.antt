@@ -1,11 +1,11 @@
 use borrow.Author.Needs.{needs}
 use mathlib.Core.Logic.{⊎-elim}
 use Rattle.times.proofs.Laws.{event-near}
-use Rattle.times.proofs.meanings.good_end.Statement.{statement}
-use Rattle.times.proofs.meanings.good_end.Tie as tie
+use Rattle.times.proofs.meanings.good_time.Statement.{statement}
+use Rattle.times.proofs.meanings.good_time.Tie as tie
 
-pub good-end-spec : {M : Type 1} → statement M
-good-end-spec =
+pub good-time-spec : {M : Type 1} → statement M
+good-time-spec =
     tie.close
     (tie.spec
     (λ c. search needs)  -- enum-known-t
