@@ -62,7 +62,7 @@ impl Judgement {
         }
     }
 
-    // The same. (It too is made of its fields.)
+    // The same judgement. (It is made of its fields: a copy of the whole costs the editions more.)
     fn unchanged(self) -> Judgement
         ensures { λ r. ⌜ r ≡ self ⌝ }
     {

@@ -15,17 +15,26 @@ use Rattle.names.specs.Table.{compared, stand, firstIn}
 use Rattle.names.specs.Letters.{capital, small, Letter, Letters}
 use Rattle.names.proofs.Laws.{within-true, within-below, within-above, within-range}
 use Rattle.names.proofs.Local.{Ends}
-use Rattle.names.proofs.Rows as rows
-use Rattle.names.proofs.Rows.{plain, plain-split, all-good, names-good, good-split}
+use Rattle.names.proofs.Rows.{NameLetter, plain, plain-split, all-good, names-good, good-split}
 use Rattle.names.proofs.Search.{alike, first-is}
 
 -- a capital
 of-capital : (b : ℕ) → 65 ≤ b → b ≤ 90 → Letter b
-of-capital b h l = record { is = rw (within-true 65 90 b h l); told-small = rw (lt-leb 97 b (omega arith), within-below 97 122 b (omega arith)); told-capital = rw (lt-leb 97 b (omega arith), within-true 65 90 b h l) }
+of-capital b h l =
+    record {
+      is = rw (within-true 65 90 b h l);
+      told-small = rw (lt-leb 97 b (omega arith), within-below 97 122 b (omega arith));
+      told-capital = rw (lt-leb 97 b (omega arith), within-true 65 90 b h l);
+    }
 
 -- a small letter
 of-small : (b : ℕ) → 97 ≤ b → b ≤ 122 → Letter b
-of-small b h l = record { is = rw (within-above 65 90 b (omega arith) (omega arith), within-true 97 122 b h l); told-small = rw (le-leb 97 b h, within-true 97 122 b h l); told-capital = rw (le-leb 97 b h, within-above 65 90 b (omega arith) (omega arith)) }
+of-small b h l =
+    record {
+      is = rw (within-above 65 90 b (omega arith) (omega arith), within-true 97 122 b h l);
+      told-small = rw (le-leb 97 b h, within-true 97 122 b h l);
+      told-capital = rw (le-leb 97 b h, within-above 65 90 b (omega arith) (omega arith));
+    }
 
 -- a letter by the test
 of-test : (b : ℕ) → (capital b || small b) ≡ true → Letter b
@@ -65,7 +74,7 @@ module _ (s : List ℕ) where
   stand-letters kind [] p l i e k h g = absurd (omega arith)
   stand-letters kind (x ∷ xs) p l i e k h g = go (decLt i k) (λ q. stand-letters kind xs (plains .1) (letters .1) (i + 1) (stands .1) k (omega arith) (omega arith))
     where
-      plains : rows.Letter kind x × (plain kind xs ≡ true)
+      plains : NameLetter kind x × (plain kind xs ≡ true)
       plains = plain-split kind x xs p
 
       letters : ((capital x || small x) ≡ true) × (lettered xs ≡ true)

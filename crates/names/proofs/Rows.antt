@@ -12,18 +12,18 @@ use Rattle.names.specs.Names.{Row, names, spelledSo}
 use Rattle.names.proofs.Laws.{within-range}
 
 -- a letter of a name of this kind: none below the letters, and a small letter where the name takes any case
-pub record Letter (kind x : ℕ) : Type 0 where
+pub record NameLetter (kind x : ℕ) : Type 0 where
   pub some : 65 ≤ x
   pub small : spelledSo kind ≡ false → (97 ≤ x) × (x ≤ 122)
 
 unfoldable pub is-letter : ℕ → ℕ → Bool
 is-letter kind x = if spelledSo kind then leb 65 x else within 97 122 x
 
-letter-is : (kind x : ℕ) → is-letter kind x ≡ true → Letter kind x
+letter-is : (kind x : ℕ) → is-letter kind x ≡ true → NameLetter kind x
 unfolding is-letter
 letter-is kind x e = go (spelledSo kind) refl e
   where
-    go : (t : Bool) → spelledSo kind ≡ t → (if t then leb 65 x else within 97 122 x) ≡ true → Letter kind x
+    go : (t : Bool) → spelledSo kind ≡ t → (if t then leb 65 x else within 97 122 x) ≡ true → NameLetter kind x
     go true q h = record { some = leb-true _ _ h; small = λ n. absurd (true≢false (sym q ∙ n)) }
     go false q h = let r = within-range 97 122 x h in record { some = omega arith; small = λ n. r }
 
@@ -32,7 +32,7 @@ unfoldable pub plain : ℕ → List ℕ → Bool
 plain kind [] = true
 plain kind (x ∷ xs) = is-letter kind x && plain kind xs
 
-pub plain-split : (kind x : ℕ) (xs : List ℕ) → plain kind (x ∷ xs) ≡ true → Letter kind x × (plain kind xs ≡ true)
+pub plain-split : (kind x : ℕ) (xs : List ℕ) → plain kind (x ∷ xs) ≡ true → NameLetter kind x × (plain kind xs ≡ true)
 unfolding plain
 plain-split kind x xs e = let h = and-eq-true-iff (is-letter kind x) (plain kind xs) .0 e in (letter-is kind x (h .0), h .1)
 

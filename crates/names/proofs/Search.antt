@@ -18,10 +18,10 @@ use Rattle.names.specs.Table.{fold, compared, stand, firstIn, orElse}
 use Rattle.names.proofs.Found as value
 use Rattle.names.proofs.Laws.{one-is, within-below}
 use Rattle.names.proofs.Folds.{tells}
-use Rattle.names.proofs.Rows.{Letter, plain, plain-split, all-good, names-good, good-split, longer, longer-split}
+use Rattle.names.proofs.Rows.{NameLetter, plain, plain-split, all-good, names-good, good-split, longer, longer-split}
 
 -- the comparison tells a letter of a name as the definition does
-pub alike : (kind b x : ℕ) → Letter kind x → (compared kind b ≡ x) ↔ (letter kind b ≡ x)
+pub alike : (kind b x : ℕ) → NameLetter kind x → (compared kind b ≡ x) ↔ (letter kind b ≡ x)
 unfolding compared letter
 alike kind b x l = go (spelledSo kind) refl
   where
@@ -30,7 +30,7 @@ alike kind b x l = go (spelledSo kind) refl
     go false q = tells b x (l .small q .0) (l .small q .1)
 
 -- so with the test
-same-test : (kind b x : ℕ) → Letter kind x → eqb (letter kind b) x ≡ eqb (compared kind b) x
+same-test : (kind b x : ℕ) → NameLetter kind x → eqb (letter kind b) x ≡ eqb (compared kind b) x
 same-test kind b x l = go (eqb (compared kind b) x) refl
   where
     go : (t : Bool) → eqb (compared kind b) x ≡ t → eqb (letter kind b) x ≡ t
@@ -47,7 +47,7 @@ letter-below kind b h = rw (within-below 65 90 b h) (go (spelledSo kind))
     go false = refl
 
 -- and is no letter of a name
-no-letter : (kind b x : ℕ) → Letter kind x → b < 65 → eqb (letter kind b) x ≡ false
+no-letter : (kind b x : ℕ) → NameLetter kind x → b < 65 → eqb (letter kind b) x ≡ false
 no-letter kind b x l h = ne-eqb _ x (λ e. omega (arith, l .some, sym (letter-below kind b h) ∙ e))
 
 module _ (s : List ℕ) where

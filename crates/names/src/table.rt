@@ -123,7 +123,7 @@ impl Cursor {
         self.or_one_of(w, s, 2, HOLIDAY, 1, b"PH SH")
     }
 
-    // The longest name of four letters or more. None stands where the fourth byte is a digit or a sign.
+    // The longest name of four letters or more. None stands where the fourth byte comes before the letters, as a digit, a sign and a blank do, or the text ends before it.
     fn four_or_more(self, s: &[u8]) -> Word
         requires { ⌜ self .at < length (now s) ⌝ }
         ensures { λ r. ⌜ names.firstOf names.fourOrMore (now (s .entry)) (self .at) ≡ seenWord r ⌝ }
@@ -142,7 +142,7 @@ impl Cursor {
         self.four(s)
     }
 
-    // The longest name of three letters or more. None stands where the third byte is a digit or a sign.
+    // The longest name of three letters or more: the same with the third byte.
     fn three_or_more(self, s: &[u8]) -> Word
         requires { ⌜ self .at < length (now s) ⌝ }
         ensures { λ r. ⌜ names.firstOf names.threeOrMore (now (s .entry)) (self .at) ≡ seenWord r ⌝ }
@@ -169,7 +169,7 @@ impl Cursor {
         self.two(s)
     }
 
-    // The longest name that stands here. The search has the rest of the text alone: it needs no place then, and takes less work.
+    // The longest name that stands here. It is searched for in the rest of the text, where its place is 0: that takes fewer registers.
     pub fn word(self, s: &[u8]) -> Word
         ensures { λ r. ⌜ names.word (now (s .entry)) (self .at) ≡ seenWord r ⌝ }
     {

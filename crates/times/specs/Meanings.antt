@@ -40,11 +40,11 @@ goodTime last (Sunrise m) = near m
 goodTime last (Sunset m) = near m
 goodTime last (Dusk m) = near m
 
--- a start in range: hour 0 to 23 with 24:00 besides, so up to 24:00
+-- a start in range: hour 0 to 23 with 24:00 besides, so a clock time up to 24:00
 abbrev pub goodStart : Time → Bool
 goodStart = goodTime midnight
 
--- an end in range: up to 48:00
+-- an end in range: a clock time up to 48:00, an event as at the start
 abbrev pub goodEnd : Time → Bool
 goodEnd = goodTime nextMidnight
 

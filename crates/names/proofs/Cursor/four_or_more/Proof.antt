@@ -24,7 +24,9 @@ four-or-more-spec =
     (λ c κs. search needs)  -- six-requires
     (λ c. search needs)  -- enum-told-3
     (λ c. search needs)  -- enum-told-4
-    (λ c. rw (four-or-more _ _, named (c .before .before .before .before .before .seven .ensures) (c .before .before .before .enum-told .given .1) .is, c .before .before .six .ensures, c .enum-told4 .given .1))  -- returns-3
+    (λ c. let no-seven = c .before .before .before in
+    rw (four-or-more _ _, named (no-seven .before .before .seven .ensures) (no-seven .enum-told .given .1) .is, c .before .before .six .ensures, c .enum-told4 .given .1))  -- returns-3
     (λ c κs. search needs)  -- four-requires
-    (λ c. rw (four-or-more _ _, named (c .before .before .before .before .before .before .seven .ensures) (c .before .before .before .before .enum-told .given .1) .is, named (c .before .before .before .six .ensures) (c .before .enum-told3 .given .1) .is)
+    (λ c. let no-six = c .before in let no-seven = no-six .before .before .before in
+    rw (four-or-more _ _, named (no-seven .before .before .seven .ensures) (no-seven .enum-told .given .1) .is, named (no-six .before .before .six .ensures) (no-six .enum-told3 .given .1) .is)
     (c .four .ensures)))  -- returns-4
