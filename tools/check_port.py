@@ -1,5 +1,5 @@
 #!/usr/bin/env python3
-"""Looks up each name of docs/PORT.md in the file that the table names: `crate/specs/File `name`, `name``, or `crate/src/file.rt `name``. Exit code 0 only if all are there."""
+"""Looks up each name of docs/PORT-OTHER.md in the file that the table names: `crate/specs/File `name`, `name``, or `crate/src/file.rt `name``. Exit code 0 only if all are there."""
 import os
 import re
 import sys
@@ -16,7 +16,7 @@ def defined(path, name):
 
 
 def main():
-    looked_up = [(path, name) for path, names in FILE.findall(open(os.path.join(ROOT, "docs/PORT.md")).read()) for name in re.findall(r"\w+", names)]
+    looked_up = [(path, name) for path, names in FILE.findall(open(os.path.join(ROOT, "docs/PORT-OTHER.md")).read()) for name in re.findall(r"\w+", names)]
     missing = [f"{path} has no {name}" for path, name in looked_up if not defined(path, name)]
     print("\n".join(missing + [f"{len(looked_up)} names looked up, {len(missing)} missing"]))
     return 1 if missing or not looked_up else 0
