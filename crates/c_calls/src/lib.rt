@@ -1,4 +1,6 @@
 // The calls for C: the readings over bytes, the note's numbers, tallies, and what is asked of a table. include/lorukinde.h has the same words.
+#![tactic(auto)]
+
 mod figures;
 mod rule_calls;
 

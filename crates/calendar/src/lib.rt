@@ -1,4 +1,6 @@
 // The Gregorian calendar: leap years, the last day of a month, and which days there are. Year 0 stands for no year.
+#![tactic(auto)]
+
 ghost use Rattle.std.specs.Prelude.{◌≡◌};
 ghost use Rattle.calendar.specs.Calendar as calendar;
 

@@ -1,4 +1,6 @@
 // What a user calls to read a sheet or a part of it, into a table of words or of bytes.
+#![tactic(auto)]
+
 mod editions;
 mod houses;
 mod part_calls;
@@ -12,7 +14,7 @@ pub use part_calls::{read_part, read_part_bytes, read_part_bytes_in, read_part_i
 pub use sheet_calls::{read_sheet, read_sheet_bytes, read_sheet_bytes_in, read_sheet_in};
 
 // An edition of the rules, named by its number: the manner of its reading, or none that is known.
-#[derive(Drop)]
+#[derive(Clone, Copy)]
 pub enum Edition {
     Known(Manner),
     Unknown,

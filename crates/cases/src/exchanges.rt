@@ -10,7 +10,7 @@ use prints::print_number;
 use sheet::PartAnswer;
 
 // The reading of a part in both sheets: whether it is the same, whether it was the last, and the next parts' places.
-#[derive(Drop)]
+#[derive(Clone, Copy)]
 struct Pair {
     is_same: bool,
     is_last: bool,
@@ -19,7 +19,7 @@ struct Pair {
 }
 
 // How many parts are read alike, and how many are not.
-#[derive(Drop)]
+#[derive(Clone, Copy)]
 struct Tally {
     same: u64,
     other: u64,

@@ -4,14 +4,14 @@ ghost use Rattle.std.specs.Prelude.{◌≤◌, length};
 use libc::STDIN_FILENO;
 
 // A byte of the input, or its end.
-#[derive(Drop)]
+#[derive(Clone, Copy)]
 enum ByteRead {
     Got(u8),
     End,
 }
 
 // A line that was read: how many bytes it has, or that the input had ended.
-#[derive(Drop)]
+#[derive(Clone, Copy)]
 pub struct LineRead {
     pub bytes: usize,
     pub is_found: bool,

@@ -1,5 +1,7 @@
 // Runs cases, one a line of standard input: four digits for the words of the table, a letter, a byte more, the sheet.
 // Writes each line, and what its reading gives: answers and records, as the program `hours` does.
+#![tactic(auto)]
+
 ghost use Rattle.std.specs.Prelude.{◌≤◌};
 
 mod exchanges;

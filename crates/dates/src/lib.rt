@@ -1,4 +1,6 @@
 // Years, weeks and month days.
+#![tactic(auto)]
+
 mod bare_ends;
 mod dates;
 mod ends;
@@ -16,21 +18,21 @@ pub use weeks::week_item;
 pub use years::year_item_after;
 
 // A year that may be left out.
-#[derive(Drop)]
+#[derive(Clone, Copy)]
 pub enum Year {
     Absent,
     Given(u16),
 }
 
 // A month of a year, or of none (0).
-#[derive(Drop)]
+#[derive(Clone, Copy)]
 pub struct YearMonth {
     pub year: u16,
     pub month: u8,
 }
 
 // Years or weeks as they are read.
-#[derive(Drop)]
+#[derive(Clone, Copy)]
 pub struct RawRange {
     pub first: u16,
     pub last: u16,
@@ -38,7 +40,7 @@ pub struct RawRange {
 }
 
 // Months as they are read, and which of their names call for a warning.
-#[derive(Drop)]
+#[derive(Clone, Copy)]
 pub struct RawMonths {
     pub year: Year,
     pub first: u8,
@@ -48,7 +50,7 @@ pub struct RawMonths {
 }
 
 // A date as it is read, and whether its month or `easter` and its weekday call for a warning.
-#[derive(Drop)]
+#[derive(Clone, Copy)]
 pub struct RawDate {
     pub year: Year,
     pub day: Day,
@@ -57,7 +59,7 @@ pub struct RawDate {
 }
 
 // How a date item ends, as it is read: nothing after its start, a plus, a date, or a day alone.
-#[derive(Drop)]
+#[derive(Clone, Copy)]
 pub enum RawEnd {
     Nothing,
     Plus,
@@ -66,7 +68,7 @@ pub enum RawEnd {
 }
 
 // A date item as it is read.
-#[derive(Drop)]
+#[derive(Clone, Copy)]
 pub struct RawDates {
     pub date: RawDate,
     pub offset: RawOffset,
@@ -74,70 +76,70 @@ pub struct RawDates {
 }
 
 // What reading years or weeks finds.
-#[derive(Drop)]
+#[derive(Clone, Copy)]
 pub enum RangeRead {
     Got(RawRange, Cursor),
     Missing,
 }
 
 // Years as they are read, and the place after them.
-#[derive(Drop)]
+#[derive(Clone, Copy)]
 pub struct RangeThen {
     pub range: RawRange,
     pub next: Cursor,
 }
 
 // A step, 1 where none is read, and the place after it.
-#[derive(Drop)]
+#[derive(Clone, Copy)]
 pub struct StepThen {
     pub step: u32,
     pub next: Cursor,
 }
 
 // A year that may be left out, and the place after it.
-#[derive(Drop)]
+#[derive(Clone, Copy)]
 pub struct YearThen {
     pub year: Year,
     pub next: Cursor,
 }
 
 // What reading `n` or `-n` finds.
-#[derive(Drop)]
+#[derive(Clone, Copy)]
 pub enum NthRead {
     Got(i16, Cursor),
     Missing,
 }
 
 // What reading a date without its year finds: the date, whether its weekday's name calls for a warning, and the place after it.
-#[derive(Drop)]
+#[derive(Clone, Copy)]
 pub enum DayRead {
     Got(Day, bool, Cursor),
     Missing,
 }
 
 // What reading a date finds.
-#[derive(Drop)]
+#[derive(Clone, Copy)]
 pub enum DateRead {
     Got(RawDate, Cursor),
     Missing,
 }
 
 // What reading an end finds after a minus.
-#[derive(Drop)]
+#[derive(Clone, Copy)]
 pub enum EndRead {
     Got(RawEnd, Cursor),
     Missing,
 }
 
 // How a date item ends, and the place after it.
-#[derive(Drop)]
+#[derive(Clone, Copy)]
 pub struct EndThen {
     pub end: RawEnd,
     pub next: Cursor,
 }
 
 // A date item as it is read, and the place after it.
-#[derive(Drop)]
+#[derive(Clone, Copy)]
 pub struct DatesThen {
     pub dates: RawDates,
     pub next: Cursor,

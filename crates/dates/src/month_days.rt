@@ -12,7 +12,7 @@ use names::{Cursor, MONTH, Named, Step};
 use records::{Day, ItemRead, judged};
 
 // The last month of a span after its first, whether its name calls for a warning, and the place after it.
-#[derive(Drop)]
+#[derive(Clone, Copy)]
 struct MonthThen {
     last: u8,
     odd: bool,

@@ -1,4 +1,6 @@
 // Weekdays, holidays and the offsets that days may have.
+#![tactic(auto)]
+
 mod entries;
 mod holidays;
 mod offsets;
@@ -11,7 +13,7 @@ use records::Meant;
 pub use weekdays::weekday_item_after;
 
 // An offset as it is read: a weekday to go to, the previous where it is below 0, 0 none; a number of days; and whether the weekday's name calls for a warning.
-#[derive(Drop)]
+#[derive(Clone, Copy)]
 pub struct RawOffset {
     pub wday: i16,
     pub days: i16,
@@ -19,7 +21,7 @@ pub struct RawOffset {
 }
 
 // Which of a month's weekdays are meant: the first to the fifth.
-#[derive(Drop)]
+#[derive(Clone, Copy)]
 pub struct Flags {
     pub one: bool,
     pub two: bool,
@@ -29,7 +31,7 @@ pub struct Flags {
 }
 
 // An entry of a weekday: from the month's end or not, first and last.
-#[derive(Drop)]
+#[derive(Clone, Copy)]
 pub struct Entry {
     pub back: bool,
     pub first: u8,
@@ -37,7 +39,7 @@ pub struct Entry {
 }
 
 // The flags that entries set, from the month's start and from its end, and whether all their numbers are in range.
-#[derive(Drop)]
+#[derive(Clone, Copy)]
 pub struct Marks {
     pub starts: Flags,
     pub ends: Flags,
@@ -45,7 +47,7 @@ pub struct Marks {
 }
 
 // Weekdays as they are read, and which of their names call for a warning.
-#[derive(Drop)]
+#[derive(Clone, Copy)]
 pub struct RawWeekdays {
     pub first: u8,
     pub last: u8,
@@ -56,70 +58,70 @@ pub struct RawWeekdays {
 }
 
 // A plus, or a minus, and the place after it; or neither.
-#[derive(Drop)]
+#[derive(Clone, Copy)]
 pub enum SignRead {
     Got(bool, Cursor),
     Missing,
 }
 
 // What reading a day offset finds.
-#[derive(Drop)]
+#[derive(Clone, Copy)]
 pub enum DaysRead {
     Got(i16, Cursor),
     Missing,
 }
 
 // A weekday to go to, whether its name calls for a warning, and the place after it; or none.
-#[derive(Drop)]
+#[derive(Clone, Copy)]
 pub enum WdayRead {
     Got(i16, bool, Cursor),
     Missing,
 }
 
 // An offset, which may be none, and the place after it.
-#[derive(Drop)]
+#[derive(Clone, Copy)]
 pub struct OffsetThen {
     pub offset: RawOffset,
     pub next: Cursor,
 }
 
 // A day offset, which may be none, and the place after it.
-#[derive(Drop)]
+#[derive(Clone, Copy)]
 pub struct DaysThen {
     pub days: i16,
     pub next: Cursor,
 }
 
 // What reading an entry finds.
-#[derive(Drop)]
+#[derive(Clone, Copy)]
 pub enum EntryRead {
     Got(Entry, Cursor),
     Missing,
 }
 
 // What reading entries finds.
-#[derive(Drop)]
+#[derive(Clone, Copy)]
 pub enum MarksRead {
     Got(Marks, Cursor),
     Missing,
 }
 
 // What reading weekdays finds after the first.
-#[derive(Drop)]
+#[derive(Clone, Copy)]
 pub enum WeekdaysRead {
     Got(RawWeekdays, Cursor),
     Missing,
 }
 
 // What weekdays mean, and the place after them.
-#[derive(Drop)]
+#[derive(Clone, Copy)]
 pub struct WeekdaysThen {
     pub meant: Meant,
     pub next: Cursor,
 }
 
 // The last weekday of a range, which may be the first; whether its name calls for a warning; and the place after it.
-#[derive(Drop)]
+#[derive(Clone, Copy)]
 pub struct LastThen {
     pub last: u8,
     pub odd: bool,
@@ -127,7 +129,7 @@ pub struct LastThen {
 }
 
 // The flags that entries set, if there are any, and the place after them.
-#[derive(Drop)]
+#[derive(Clone, Copy)]
 pub struct MarksThen {
     pub marks: Marks,
     pub next: Cursor,

@@ -1,1 +1,2 @@
 // What is asked of a reading of parts, as theorems over the definitions: see proofs/.
+#![tactic(auto)]

@@ -1,4 +1,6 @@
 // A whole feed: many sheets, one a line.
+#![tactic(auto)]
+
 mod answers;
 mod feeds;
 mod lines;
@@ -6,7 +8,7 @@ mod lines;
 pub use feeds::{read_feed, read_feed_bytes};
 
 // What reading a feed answers.
-#[derive(Drop)]
+#[derive(Clone, Copy)]
 pub struct FeedAnswer {
     pub number: u8,
     pub lines: usize,

@@ -1,12 +1,14 @@
 // Reads a sheet from standard input and writes what it says: the answer's four numbers and each record, one line each.
 // Its file `stdin` is a sheet of 4,097 bytes of which the first 4,096 would be accepted; `stdout` is the second reader's: python3 tools/reference.py sheets crates/hours/stdin
+#![tactic(auto)]
+
 ghost use Rattle.std.specs.Prelude.{◌≤◌, length};
 
 use libc::{STDIN_FILENO, STDOUT_FILENO};
 use outputs::{MOST, output};
 
 // What was read: how many bytes, or that a read failed.
-#[derive(Drop)]
+#[derive(Clone, Copy)]
 struct Input {
     bytes: usize,
     is_failed: bool,

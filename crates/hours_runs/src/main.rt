@@ -1,5 +1,7 @@
 // Writes what the program `hours` writes for each sheet of standard input: the sheets stand on lines, and one after the last byte 10.
 // Its file `stdout` is the second reader's, not its own: python3 tools/reference.py sheets crates/hours_runs/stdin
+#![tactic(auto)]
+
 use bytes::scan::find;
 use libc::{STDIN_FILENO, STDOUT_FILENO};
 use outputs::{MOST, output};

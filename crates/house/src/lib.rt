@@ -1,19 +1,21 @@
 // The house profile, a judgement over the rules that were read: only `;` between rules; only clock times, up to 24:00, without repeat or open end;
 // and within a rule spans in rising order, each end after its start and no two overlapping.
+#![tactic(auto)]
+
 mod breaks;
 mod spans;
 
 pub use breaks::first_of;
 
 // The first break of these, by its number and place, or nowhere.
-#[derive(Drop)]
+#[derive(Clone, Copy)]
 pub enum Break {
     Nowhere,
     At(u8, usize),
 }
 
 // What is known of a rule after some of its items: its first break, and where its spans end.
-#[derive(Drop)]
+#[derive(Clone, Copy)]
 pub struct Judgement {
     pub first: Break,
     pub end: u16,

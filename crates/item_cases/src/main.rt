@@ -1,5 +1,7 @@
 // Reads items, one a line: a digit for the kind of list, a blank, the text, a tab, and the answer that it is to give.
 // Writes each line whose answer is another, with that answer, and at the end how many lines were read.
+#![tactic(auto)]
+
 ghost use Rattle.std.specs.Prelude.{◌≤◌, length};
 
 use items::{HOLIDAYS, MONTH_DAYS, Stands, TIMES, WEEK_NUMBERS, WEEKDAYS, YEARS, look_at};
@@ -9,7 +11,7 @@ use prints::size;
 use records::keep_item;
 
 // A line that is being written: bytes past its end are left out.
-#[derive(Drop)]
+#[derive(Clone, Copy)]
 struct Text {
     bytes: [u8; 256],
     len: u8,
@@ -134,7 +136,7 @@ fn right(kind: u8, text: &[u8], answer: &[u8]) -> bool {
 }
 
 // Lines that were read, and those whose answer is another.
-#[derive(Drop)]
+#[derive(Clone, Copy)]
 struct Counts {
     lines: u64,
     other: u64,

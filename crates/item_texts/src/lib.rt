@@ -1,4 +1,6 @@
 // Items: which of them a sheet can have, their order in a rule, and their text.
+#![tactic(auto)]
+
 mod date_tests;
 mod day_tests;
 mod orders;
@@ -17,7 +19,7 @@ pub use texts::{put_after, put_first};
 use time_tests::good_span;
 
 // The sorts of items: weekdays after holidays are weekdays, and a date or a month is a month day.
-#[derive(Drop)]
+#[derive(Clone, Copy)]
 pub enum Sort {
     Years,
     MonthDays,
@@ -28,7 +30,7 @@ pub enum Sort {
 }
 
 // What stands before an item of a sort after one of a kind, and as which kind it is read; or that it may not stand there.
-#[derive(Drop)]
+#[derive(Clone, Copy)]
 pub enum Joint {
     Comma(Kind),
     Colon(Kind),

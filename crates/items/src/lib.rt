@@ -1,4 +1,6 @@
 // Items of any kind: one look at a place, and the item that stands there, if it is wanted.
+#![tactic(auto)]
+
 mod kinds;
 mod looks;
 mod musts;
@@ -13,7 +15,7 @@ use names::Cursor;
 use records::Item;
 
 // The kinds of items in a rule.
-#[derive(Drop)]
+#[derive(Clone, Copy)]
 pub enum Kind {
     Years,
     MonthDays,
@@ -31,14 +33,14 @@ pub enum Kind {
 }
 
 // What is missing at a place: the number that says what, and the place.
-#[derive(Drop)]
+#[derive(Clone, Copy)]
 pub struct Lack {
     pub number: u8,
     pub place: usize,
 }
 
 // As what an item is wanted, or that it is not.
-#[derive(Drop)]
+#[derive(Clone, Copy)]
 pub enum Wish {
     As(Kind),
     Not,
@@ -46,7 +48,7 @@ pub enum Wish {
 
 // What stands at a place: an item that was wanted, its place, its kind and the place after it; the refusal of one, its number and place;
 // else a name, its kind, which of its kind it is and the place after it; or neither.
-#[derive(Drop)]
+#[derive(Clone, Copy)]
 pub enum Stands {
     Item(Item, usize, Kind, Cursor),
     Refused(u8, usize),

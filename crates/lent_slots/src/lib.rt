@@ -1,4 +1,6 @@
 // A record's sixteen words in a slot of a lent table, of words or of bytes: written and read.
+#![tactic(auto)]
+
 ghost use Rattle.std.specs.Prelude.{◌<◌, ◌≡◌};
 ghost use Rattle.lent_slots.specs.Tables.{kept_in};
 ghost use Rattle.lent_slots.specs.Slots as slots;

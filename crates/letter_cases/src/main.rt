@@ -1,5 +1,7 @@
 // Reads texts that begin with a quote, one a line, in hexadecimal; writes each with the place where its characters after that quote end.
 // Both what is read and what has to be written are made by tools/make_letter_cases.py, with Python's own decoder.
+#![tactic(auto)]
+
 ghost use Rattle.std.specs.Prelude.{◌≤◌};
 ghost use Rattle.io.specs.Counts.{IsPrefixLen};
 

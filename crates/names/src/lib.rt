@@ -1,4 +1,6 @@
 // What every layer reads with: a place in a text, what stands there, numbers and names.
+#![tactic(auto)]
+
 mod numbers;
 mod refusals;
 mod spellings;
@@ -15,7 +17,7 @@ pub use table::{DAY, EASTER, EVENT, HOLIDAY, MODIFIER, MONTH, WEEK, WEEKDAY};
 pub use tests::within;
 
 // How a text is read: by the first edition of the rules; by the second, which takes more shapes; or as a house sheet, by the first and judged by the house profile besides.
-#[derive(Drop)]
+#[derive(Clone, Copy)]
 pub enum Manner {
     First,
     Second,
@@ -23,41 +25,41 @@ pub enum Manner {
 }
 
 // A place in a text. Each step takes it by value and hands it back moved on; past the end nothing stands.
-#[derive(Drop)]
+#[derive(Clone, Copy)]
 pub struct Cursor {
     pub at: usize,
 }
 
 // The place after a sign, a blank or a comma, or no such shape.
-#[derive(Drop)]
+#[derive(Clone, Copy)]
 pub enum Step {
     Got(Cursor),
     Missing,
 }
 
 // A number and the place after it, or no such shape.
-#[derive(Drop)]
+#[derive(Clone, Copy)]
 pub enum Num {
     Got(u32, Cursor),
     Missing,
 }
 
 // A name's kind, which of its kind it is, and the place after it, or no name.
-#[derive(Drop)]
+#[derive(Clone, Copy)]
 pub enum Word {
     Got(u8, u8, Cursor),
     Missing,
 }
 
 // Which name of a kind stands at a place, whether it calls for a warning, and the place after it, or no such name.
-#[derive(Drop)]
+#[derive(Clone, Copy)]
 pub enum Named {
     Got(u8, bool, Cursor),
     Missing,
 }
 
 // The same of a name of any kind, with its kind first.
-#[derive(Drop)]
+#[derive(Clone, Copy)]
 pub enum Spelled {
     Got(u8, u8, bool, Cursor),
     Missing,

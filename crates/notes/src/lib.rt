@@ -1,9 +1,11 @@
 // The note shown for a rule.
+#![tactic(auto)]
+
 ghost use Rattle.std.specs.Prelude.{◌≡◌};
 ghost use Rattle.notes.specs.Notes as notes;
 
 // Which bytes a note is: the sheet's, or else the standing note's, from where and to where.
-#[derive(Drop)]
+#[derive(Clone, Copy)]
 pub struct NotePart {
     pub sheets: bool,
     pub from: usize,

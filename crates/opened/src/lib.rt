@@ -1,1 +1,2 @@
 // No code: every definition of a reading open at once, for what is computed.
+#![tactic(auto)]

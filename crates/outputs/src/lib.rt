@@ -1,4 +1,6 @@
 // What the program writes for a sheet: the answer's four numbers, then each record, one line each.
+#![tactic(auto)]
+
 ghost use Rattle.std.specs.Prelude.{◌+◌, ◌*◌, ◌≤◌, [], ◌∷◌, ◌++◌, ◌≡◌, length};
 ghost use Rattle.prints.specs.Decimals.{decimal};
 ghost use Rattle.prints.specs.Lines.{line, lines};

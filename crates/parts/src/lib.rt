@@ -1,4 +1,6 @@
 // Parts: a quote flips inside and outside, a part ends at a `;` outside.
+#![tactic(auto)]
+
 ghost use Rattle.std.specs.Prelude.{◌≡◌, ◌≤◌, length, take};
 ghost use Rattle.names.specs.Quotes as quotes;
 ghost use Rattle.parts.specs.Parts as parts;

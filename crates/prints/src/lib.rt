@@ -1,4 +1,6 @@
 // What the programs write: numbers and lines of numbers, into lent bytes (`Pen`) or to standard output, a blank or the line's end after each.
+#![tactic(auto)]
+
 mod pens;
 
 ghost use Rattle.std.specs.Prelude.{◌≤◌, ◌≡◌, nat_abs, length};

@@ -8,7 +8,7 @@ use crate::size;
 
 // A writing place: how many bytes the text before it has. Each step takes it by value and hands it back moved on; a byte that has no room is counted
 // and not written. (The count stops at the largest number.)
-#[derive(Drop)]
+#[derive(Clone, Copy)]
 pub struct Pen {
     pub at: usize,
 }

@@ -1,4 +1,6 @@
 // What the items and the head of a rule are, the words of their records, and what a record tells.
+#![tactic(auto)]
+
 mod fits;
 mod judging;
 mod kept;
@@ -14,7 +16,7 @@ pub use told::{byte_at, item_in, item_of, number_at, record_in};
 pub use warnings::warnings_in;
 
 // Years from first to last, each step'th.
-#[derive(Drop)]
+#[derive(Clone, Copy)]
 pub struct YearRange {
     pub first: u16,
     pub last: u16,
@@ -22,7 +24,7 @@ pub struct YearRange {
 }
 
 // Weeks from first to last, each step'th.
-#[derive(Drop)]
+#[derive(Clone, Copy)]
 pub struct WeekRange {
     pub first: u16,
     pub last: u16,
@@ -30,7 +32,7 @@ pub struct WeekRange {
 }
 
 // Months from first to last, of a year or, where it is 0, of each; and which of their names call for a warning.
-#[derive(Drop)]
+#[derive(Clone, Copy)]
 pub struct MonthSpan {
     pub year: u16,
     pub first: u8,
@@ -40,7 +42,7 @@ pub struct MonthSpan {
 }
 
 // What a date has beside its year: a month and a day; a month, a weekday and which one of the month, from its end where it is below 0; or easter.
-#[derive(Drop)]
+#[derive(Clone, Copy)]
 pub enum Day {
     Fixed(u8, u8),
     Weekday(u8, u8, i16),
@@ -48,21 +50,21 @@ pub enum Day {
 }
 
 // A date, with its year or 0.
-#[derive(Drop)]
+#[derive(Clone, Copy)]
 pub struct Date {
     pub year: u16,
     pub day: Day,
 }
 
 // A weekday to go to, the previous where it is below 0, 0 none; and a number of days.
-#[derive(Drop)]
+#[derive(Clone, Copy)]
 pub struct DateOffset {
     pub wday: i16,
     pub days: i16,
 }
 
 // Which names of a date call for a warning: its month or `easter`, its weekday, the weekday of its offset.
-#[derive(Drop)]
+#[derive(Clone, Copy)]
 pub struct Odd {
     pub name: bool,
     pub weekday: bool,
@@ -70,7 +72,7 @@ pub struct Odd {
 }
 
 // Dates from one to another, and which of their names call for a warning.
-#[derive(Drop)]
+#[derive(Clone, Copy)]
 pub struct DateSpan {
     pub start: Date,
     pub start_offset: DateOffset,
@@ -81,7 +83,7 @@ pub struct DateSpan {
 }
 
 // Weekdays from first to last, a number of days later, their flags from the month's start and from its end, and which of their names call for a warning.
-#[derive(Drop)]
+#[derive(Clone, Copy)]
 pub struct WeekDayRange {
     pub first: u8,
     pub last: u8,
@@ -93,14 +95,14 @@ pub struct WeekDayRange {
 }
 
 // A holiday, 1 public, 2 school, and a number of days.
-#[derive(Drop)]
+#[derive(Clone, Copy)]
 pub struct Holiday {
     pub kind: u8,
     pub days: i16,
 }
 
 // A clock time in minutes, or a sun event with minutes added or taken off.
-#[derive(Drop)]
+#[derive(Clone, Copy)]
 pub enum Time {
     Fixed(u16),
     Dawn(i16),
@@ -110,14 +112,14 @@ pub enum Time {
 }
 
 // Whether a span is repeated, and after how many minutes.
-#[derive(Drop)]
+#[derive(Clone, Copy)]
 pub enum Repeat {
     Never,
     Every(u16),
 }
 
 // A span of times, whether its end is open (a plus), whether it is a time alone, and which of its events call for a warning.
-#[derive(Drop)]
+#[derive(Clone, Copy)]
 pub struct Span {
     pub start: Time,
     pub end: Time,
@@ -129,7 +131,7 @@ pub struct Span {
 }
 
 // An item of any kind.
-#[derive(Drop)]
+#[derive(Clone, Copy)]
 pub enum Item {
     Years(YearRange),
     Months(MonthSpan),
@@ -141,14 +143,14 @@ pub enum Item {
 }
 
 // A comment's first byte and its length, 0 and 0 for none.
-#[derive(Drop)]
+#[derive(Clone, Copy)]
 pub struct Comment {
     pub start: usize,
     pub length: usize,
 }
 
 // A rule's head: its place, its separator, its state, its comment, how many items it has, and how many warnings its names call for.
-#[derive(Drop)]
+#[derive(Clone, Copy)]
 pub struct Head {
     pub place: usize,
     pub separator: u8,
@@ -159,14 +161,14 @@ pub struct Head {
 }
 
 // What a shape comes to when it is judged: an item, or the number that refuses it.
-#[derive(Drop)]
+#[derive(Clone, Copy)]
 pub enum Meant {
     Is(Item),
     Refused(u8),
 }
 
 // What reading an item answers: the item and the place after it, no such shape, or a refusal with its number and place.
-#[derive(Drop)]
+#[derive(Clone, Copy)]
 pub enum ItemRead {
     Got(Item, Cursor),
     Missing,
@@ -174,14 +176,14 @@ pub enum ItemRead {
 }
 
 // The item that a record tells, or nothing.
-#[derive(Drop)]
+#[derive(Clone, Copy)]
 pub enum Found {
     Is(Item),
     Nothing,
 }
 
 // What a record tells: a rule's head, an item and its place, or nothing.
-#[derive(Drop)]
+#[derive(Clone, Copy)]
 pub enum Record {
     Head(Head),
     Item(Item, usize),

@@ -6,7 +6,7 @@ ghost use Rattle.records.specs.declared.Item.TheVariants as item;
 use crate::{Date, DateSpan, Day, Head, Holiday, Repeat, Span, Time, WeekDayRange};
 
 // Form, year or 0, month, day or weekday, n signed.
-#[derive(Drop)]
+#[derive(Clone, Copy)]
 struct DayWords {
     form: i32,
     year: i32,
@@ -16,7 +16,7 @@ struct DayWords {
 }
 
 // Kind and minutes.
-#[derive(Drop)]
+#[derive(Clone, Copy)]
 struct TimeWords {
     kind: i32,
     minutes: i32,

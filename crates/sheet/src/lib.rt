@@ -1,4 +1,6 @@
 // A whole sheet, and a part of it, read into a table of words and one of bytes.
+#![tactic(auto)]
+
 mod part_readings;
 mod sheets;
 
@@ -6,7 +8,7 @@ pub use part_readings::{part_into, part_refusal};
 pub use sheets::{refusal, sheet_into};
 
 // What reading a sheet answers.
-#[derive(Drop)]
+#[derive(Clone, Copy)]
 pub struct Answer {
     pub number: u8,
     pub place: usize,
@@ -15,7 +17,7 @@ pub struct Answer {
 }
 
 // What reading a part answers: also the next part's place, and whether it was the last.
-#[derive(Drop)]
+#[derive(Clone, Copy)]
 pub struct PartAnswer {
     pub number: u8,
     pub place: usize,

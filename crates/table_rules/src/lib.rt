@@ -1,4 +1,6 @@
 // The rules of a table, found by their heads.
+#![tactic(auto)]
+
 ghost use Rattle.std.specs.Prelude.{◌≤◌, ◌<◌, ◌≡◌, true, length};
 ghost use Rattle.tables.specs.Tables as tables;
 ghost use Rattle.table_rules.specs.Rules as rules;
@@ -7,7 +9,7 @@ use lent_slots::{record_at, slots};
 use records::between;
 
 // The slot from which on a rule has its items, or no rule.
-#[derive(Drop)]
+#[derive(Clone, Copy)]
 pub enum RuleItems {
     From(usize),
     Nothing,

@@ -1,4 +1,6 @@
 // Tables of records, lent as words or as bytes: whether one fits.
+#![tactic(auto)]
+
 ghost use Rattle.std.specs.Prelude.{◌≡◌};
 ghost use Rattle.tables.specs.Tables as tables;
 
@@ -6,7 +8,7 @@ use lent_slots::{is_whole, record_at, slots};
 use records::{between, head_fits, item_fits, number_at};
 
 // Whether a record fits, and how many items of its rule are then to come.
-#[derive(Drop)]
+#[derive(Clone, Copy)]
 pub struct Step {
     pub fits: bool,
     pub left: usize,

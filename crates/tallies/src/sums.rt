@@ -3,7 +3,7 @@ ghost use Rattle.std.specs.Prelude.{◌+◌, ◌≤◌, ◌<◌, ◌++◌, ◌�
 ghost use Rattle.tallies.specs.Sums as sums;
 
 // Sums of counts, if none passes the limit; else the first counts.
-#[derive(Drop)]
+#[derive(Clone, Copy)]
 pub struct Sum {
     pub fits: bool,
     pub counts: [u32; 34],

@@ -1,4 +1,6 @@
 // Which days a rule's day selectors touch.
+#![tactic(auto)]
+
 mod days;
 mod selectors;
 mod touch_kinds;
@@ -10,7 +12,7 @@ pub use touch_kinds::kind_of;
 pub use touches::{best, worst};
 
 // Whether a day is touched.
-#[derive(Drop)]
+#[derive(Clone, Copy)]
 pub enum Touch {
     No,
     Undecided,
@@ -18,14 +20,14 @@ pub enum Touch {
 }
 
 // The best of a kind's items so far, or none of them.
-#[derive(Drop)]
+#[derive(Clone, Copy)]
 pub enum Kept {
     Free,
     Best(Touch),
 }
 
 // What is known of a rule after some of its items: the four kinds.
-#[derive(Drop)]
+#[derive(Clone, Copy)]
 pub struct Found {
     pub years: Kept,
     pub month_days: Kept,

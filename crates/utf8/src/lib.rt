@@ -1,4 +1,6 @@
 // Characters of well_formed_lem UTF-8 (RFC 3629), as they may stand between the quotes of a comment. (The Rust has its text as `str`, and no such test.)
+#![tactic(auto)]
+
 ghost use Rattle.std.specs.Prelude.{◌≡◌};
 ghost use Rattle.names.specs.Read.{got};
 ghost use Rattle.names.specs.Seen.{seen_step};
