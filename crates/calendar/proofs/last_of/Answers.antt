@@ -1,4 +1,5 @@
 use borrow.Author.Rules.{rules}
+use native.Mathlib.Omega.{arith}
 use mathlib.Core.Path.{sym}
 use Rattle.calendar.specs.Calendar.{last_of}
 use Rattle.calendar.proofs.Months.{thirty, thirty_one}
@@ -14,4 +15,4 @@ returns-in-4 c = sym (thirty c.args.y c.in-4.is)
 
 pub returns-in_default : goal.returns-in_default
 unfolding last_of
-returns-in_default c = sym (thirty_one c.args.y c.args.m c.in-2.rest.0.1 c.in-2.rest.1)
+returns-in_default c = sym (thirty_one c.args.y c.args.m (search rules) (search rules))
