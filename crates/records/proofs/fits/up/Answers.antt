@@ -4,4 +4,4 @@ use borrow.Author.Rules.{rules}
 use Rattle.records.proofs.fits.up.Goals as goal
 
 pub returns : goal.returns
-returns c = up_is (word_at c.args.t1 c.args.k) c.result-1.given
+returns c = up_is (word_at c.args.w c.args.k) c.result-1.given

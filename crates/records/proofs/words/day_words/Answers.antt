@@ -4,7 +4,7 @@ use Rattle.records.proofs.Laws.{word, wide_fits, wide_word}
 use Rattle.records.proofs.words.day_words.Goals as goal
 
 pub overflow_cast-result-in-Weekday-3 : goal.overflow_cast-result-in-Weekday-3
-overflow_cast-result-in-Weekday-3 c = wide_fits c.in-Weekday.n c.known_told-in-Weekday-1.given.1.1.0.1
+overflow_cast-result-in-Weekday-3 c = wide_fits c.in-Weekday.n c.in-Weekday.known_told-in-Weekday-1-own.given.1.1.0.1
 
 pub returns-in-Fixed : goal.returns-in-Fixed
 returns-in-Fixed c = rw (c.in-Fixed.is, word c.args.d.year (omega arith), word c.in-Fixed.m (omega arith), word c.in-Fixed.n (omega arith))
@@ -15,7 +15,7 @@ returns-in-Weekday c = rw (
   word c.args.d.year (omega arith),
   word c.in-Weekday.m (omega arith),
   word c.in-Weekday.w (omega arith),
-  wide_word c.in-Weekday.n c.known_told-in-Weekday-1.given.1.1.0.1,
+  wide_word c.in-Weekday.n c.in-Weekday.known_told-in-Weekday-1-own.given.1.1.0.1,
 )
 
 pub returns-in-Easter : goal.returns-in-Easter
