@@ -32,7 +32,10 @@ fn good_time(last: u16, t: Time) -> bool
 {
     match t {
         Time::Fixed(c) => c <= last,
-        Time::Dawn(c) | Time::Sunrise(c) | Time::Sunset(c) | Time::Dusk(c) => near(c),
+        Time::Dawn(c) => near(c),
+        Time::Sunrise(c) => near(c),
+        Time::Sunset(c) => near(c),
+        Time::Dusk(c) => near(c),
     }
 }
 

@@ -1,0 +1,14 @@
+use borrow.Author.Rules.{rules}
+use Rattle.dates.proofs.meanings.ended.Goals as goal
+
+pub returns-in-Nothing : goal.returns-in-Nothing
+returns-in-Nothing c = rw (c.in-Nothing.is, ← c.no_odd.ensures) c.dates_of.ensures
+
+pub returns-in-Plus : goal.returns-in-Plus
+returns-in-Plus c = rw (c.in-Plus.is, ← c.last_day-last.ensures, ← c.no_odd-in-Plus.ensures) c.dates_of-in-Plus.ensures
+
+pub returns-in-Until : goal.returns-in-Until
+returns-in-Until c = rw (c.in-Until.is, ← c.dated-until.ensures, ← c.offset_of-after.ensures, ← c.odd_of.ensures) c.dates_of-in-Until.ensures
+
+pub returns-in-Bare : goal.returns-in-Bare
+returns-in-Bare c = rw (c.in-Bare.is, ← c.offset_of-after-in-Bare.ensures, ← c.bare_odd.ensures) c.bare.ensures

@@ -1,0 +1,8 @@
+use borrow.Author.Rules.{rules}
+use Rattle.days.proofs.entries.set.Goals as goal
+
+pub returns-then-old : goal.returns-then-old
+returns-then-old c = rw c.if-old.true
+
+pub returns-else-old : goal.returns-else-old
+returns-else-old c = rw c.if-old.false c.within.ensures
