@@ -8,14 +8,18 @@ use Rattle.dates.specs.Seen.{seen_day}
 use Rattle.dates.specs.Dates.{Spelt, date}
 use Rattle.dates.proofs.dates.date.Goals as goal
 
+-- the name, and whether it calls for a warning
+abbrev Name : Type 0
+Name = Said (Word × Bool)
+
 pub returns-in_default : goal.returns-in_default
 unfolding date
 returns-in_default c = rw (c.optional_year-y.ensures, ((let told : Name = said c.spelled-name.ensures (ap seen_spelled c.in_default.is) in told)).is)
 
 pub returns-in_default-rest : goal.returns-in_default-rest
 unfolding date
-returns-in_default-rest c = let w = (let told : (let told : Type 0 = Said (Word × Bool) in told) × Said Spelt = ((let told : Name = said c.spelled-name.ensures (ap seen_spelled c.in-Got.is) in told), said c.day_after-rest.ensures (ap seen_day c.in_default-rest.is)) in told) in rw (c.optional_year-y.ensures, w.0.is, w.1.is)
+returns-in_default-rest c = let w = (let told : Name × Said Spelt = ((let told : Name = said c.spelled-name.ensures (ap seen_spelled c.in-Got.is) in told), said c.day_after-rest.ensures (ap seen_day c.in_default-rest.is)) in told) in rw (c.optional_year-y.ensures, w.0.is, w.1.is)
 
 pub returns : goal.returns
 unfolding date
-returns c = let w = (let told : (let told : Type 0 = Said (Word × Bool) in told) × Said Spelt = ((let told : Name = said c.spelled-name.ensures (ap seen_spelled c.in-Got.is) in told), said c.day_after-rest.ensures (ap seen_day c.in-Got-rest.is)) in told) in rw (c.optional_year-y.ensures, w.0.is, w.1.is)
+returns c = let w = (let told : Name × Said Spelt = ((let told : Name = said c.spelled-name.ensures (ap seen_spelled c.in-Got.is) in told), said c.day_after-rest.ensures (ap seen_day c.in-Got-rest.is)) in told) in rw (c.optional_year-y.ensures, w.0.is, w.1.is)

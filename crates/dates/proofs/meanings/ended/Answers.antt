@@ -1,3 +1,6 @@
+use mathlib.Core.Path.{◌≡◌, sym, subst, ◌∙◌}
+use Rattle.dates.specs.declared.RawEnd.{RawEnd}
+use Rattle.dates.specs.Meanings as meanings
 use borrow.Author.Rules.{rules}
 use Rattle.dates.proofs.meanings.ended.Goals as goal
 
@@ -11,4 +14,4 @@ pub returns-in-Until : goal.returns-in-Until
 returns-in-Until c = rw (c.in-Until.is, ← c.dated-until.ensures, ← c.offset_of-after.ensures, ← c.odd_of.ensures) c.dates_of-in-Until.ensures
 
 pub returns-in-Bare : goal.returns-in-Bare
-returns-in-Bare c = rw (c.in-Bare.is, ← c.offset_of-after-in-Bare.ensures, ← c.bare_odd.ensures) c.bare.ensures
+returns-in-Bare c = subst (λ (e : RawEnd). c.bare.result ≡ meanings.ended c.args.start c.args.before c.args.odd e) (sym c.in-Bare.is) (c.bare.ensures ∙ rw (c.offset_of-after-in-Bare.ensures, c.bare_odd.ensures))

@@ -16,7 +16,7 @@ returns-in_default-second c = let w = (let told : Went × Was = ((let told : Wen
 pub overflow_cast-result : goal.overflow_cast-result
 unfolding until_last
 overflow_cast-result c = let w = ((let told : Went × Was = ((let told : Went = went c.sign-minus.ensures c.in-Got.is in told), was c.number-second.ensures c.in-Got-second.is) in told)).1 in
-    omega (arith, pow-le-pow_right {n = 10} (omega arith) c.pre)
+    omega (arith, pow-le-pow_right {n = 10} (omega arith) c.requires)
 
 pub returns : goal.returns
 unfolding until_last
