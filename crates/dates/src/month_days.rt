@@ -1,4 +1,4 @@
-// An item of a month_day_lem list: a date item, or a month span: [`YYYY` blank] `Mon`[`-Mon`].
+// An item of a month-day list: a date item, or a month span: [`YYYY` blank] `Mon`[`-Mon`].
 ghost use Rattle.std.specs.Prelude.{◌≡◌};
 ghost use Rattle.records.specs.Seen.{seen_item};
 ghost use Rattle.names.specs.Read.{got};
@@ -115,7 +115,7 @@ pub fn month_day_item_after(
     }
 }
 
-// An item of a month_day list.
+// An item of a month-day list.
 pub fn month_day_item(s: &[u8], c: Cursor) -> ItemRead
     ensures { monthdays.month_day_item s.now c.at ≡ seen_item result }
 {
