@@ -3,7 +3,7 @@ use native.Mathlib.Omega.{arith}
 use mathlib.Core.Path.{◌∙◌}
 use Rattle.names.specs.Numbers.{year}
 use Rattle.names.proofs.Facts.{Was, was}
-use Rattle.records.proofs.Anywhere.{item_after}
+use Rattle.records.proofs.Anywhere.{item_after_lem}
 use Rattle.dates.specs.Years.{year_after, year_shape, year_meaning, year_item, year_item_after}
 use Rattle.dates.proofs.years.year_item.Statement.{statement}
 use Rattle.dates.proofs.years.year_item.Tie as tie
@@ -25,4 +25,4 @@ year-item-spec =
     (λ c. rw (no_number c).is)  -- returns
     (λ c. let w = number c.before in omega arith)  -- cast-year-item-after
     (λ c κs. search rules)  -- year-item-after-requires
-    (λ c. item_after year year_after year_meaning (number c.before.before).is ∙ c.year-item-after.ensures))  -- returns-2
+    (λ c. item_after_lem year year_after year_meaning (number c.before.before).is ∙ c.year-item-after.ensures))  -- returns-2

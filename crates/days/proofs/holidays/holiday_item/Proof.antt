@@ -5,7 +5,7 @@ use Rattle.names.specs.Names.{holiday}
 use Rattle.names.specs.Names as names
 use Rattle.names.proofs.Facts.{Was, was}
 use Rattle.days.specs.Holidays.{holiday_after, holiday_shape, holiday_meaning, holiday_item, holiday_item_after}
-use Rattle.records.proofs.Anywhere.{item_after}
+use Rattle.records.proofs.Anywhere.{item_after_lem}
 use Rattle.days.proofs.holidays.holiday_item.Statement.{statement}
 use Rattle.days.proofs.holidays.holiday_item.Tie as tie
 
@@ -23,4 +23,4 @@ holiday-item-spec =
     (λ c. rw (was c.before.before.name.ensures c.enum_told.given.1).is)  -- returns
     (λ c. omega (arith, name c.before))  -- cast-holiday-item-after
     (λ c κs. search rules)  -- holiday-item-after-requires
-    (λ c. item_after (names.name holiday) holiday_after holiday_meaning (name c.before.before).is ∙ c.holiday-item-after.ensures))  -- returns-2
+    (λ c. item_after_lem (names.name holiday) holiday_after holiday_meaning (name c.before.before).is ∙ c.holiday-item-after.ensures))  -- returns-2

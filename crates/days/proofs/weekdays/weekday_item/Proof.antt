@@ -8,7 +8,7 @@ use Rattle.names.proofs.NameCut.{name_local}
 use Rattle.names.proofs.Odd.{named_got, named_none}
 use Rattle.names.proofs.Facts.{Was, was}
 use Rattle.days.specs.Weekdays.{weekday_after, weekday_shape, weekday_meaning, weekday_item, weekday_item_after}
-use Rattle.records.proofs.Anywhere.{item_after}
+use Rattle.records.proofs.Anywhere.{item_after_lem}
 use Rattle.days.proofs.weekdays.weekday_item.Statement.{statement}
 use Rattle.days.proofs.weekdays.weekday_item.Tie as tie
 
@@ -27,5 +27,5 @@ weekday-item-spec =
     (λ c. omega (arith, name c.before))  -- cast-weekday-item-after
     (λ c κs. past_one (name_local weekday) (name c.before).is)  -- weekday-item-after-requires
     (λ c. let z = c.before.before.before.before.before.before in
-    item_after (named weekday) (weekday_after z.args.m) weekday_meaning (named_got z.args.s.now z.args.c.at weekday (name c.before.before).is)
+    item_after_lem (named weekday) (weekday_after z.args.m) weekday_meaning (named_got z.args.s.now z.args.c.at weekday (name c.before.before).is)
     ∙ c.weekday-item-after.ensures))  -- returns-2
