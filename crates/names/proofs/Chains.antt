@@ -41,7 +41,7 @@ module _ {S A B : Type 0} {e : Manner} {Q : Tail} (shA : ℕ → A → A) {shB :
         ends = λ s v i z w. (fuelled (suc (length s)) l x h F).ends s v i z w;
         same = λ s v i z w.
             (fuelled (suc (length (u ++ (s ++ v)))) l x h F).same s v i z w
-            ∙ ap (moved _ (length u)) (enough more end (λ y. takes (M y)) (suc (length (u ++ (s ++ v)))) (suc (length s)) x s i (simp length-append (omega arith)) (omega arith));
+            ∙ ap (moved (chain_moves shA shB) (length u)) (enough more end (λ y. takes (M y)) (suc (length (u ++ (s ++ v)))) (suc (length s)) x s i (simp length-append (omega arith)) (omega arith));
         near = λ s i o. (fuelled (suc (length s)) l x h F).near s i o;
       }
 

@@ -15,7 +15,7 @@ word n h = to_z_pos w32 (omega arith)
 
 -- an i32 kept as a word is itself
 pub word_fits : (z : ℤ) → mag z < 2 ^ 31 → to_z w32 (of_z w32 z) ≡ z
-word_fits z h = to_z-of_z (sfits_of h)
+word_fits z h = to_z-of_z {w = w32} (sfits_of h)
 
 -- an i16 kept as such is itself
 pub half_fits : (z : ℤ) → mag z < 2 ^ 15 → to_z w16 (of_z w16 z) ≡ z
@@ -46,4 +46,4 @@ pub minus_fits : (n : ℕ) → n ≤ 32767 → SFits w16 (pos 0 -ℤ to_z w16 n)
 minus_fits n h = rw (minus n h) (sfits_of (minus_small n h))
 
 pub minus_half : (n : ℕ) → n ≤ 32767 → to_z w16 (of_z w16 (pos 0 -ℤ to_z w16 n)) ≡ neg_ℤ (pos n)
-minus_half n h = rw (minus n h) (to_z-of_z (sfits_of (minus_small n h)))
+minus_half n h = rw (minus n h) (to_z-of_z {w = w16} (sfits_of (minus_small n h)))

@@ -1,0 +1,18 @@
+use borrow.Author.Rules.{rules}
+use native.Mathlib.Nat.{add-zero}
+use Prim.Native.Nat.{◌+◌, ◌-◌, ◌≤◌}
+use mathlib.Core.Path.{◌≡◌}
+use lib.ListN.{length, drop, length-set}
+use lib.Seq.{sets}
+use mir.Syntax.{w32}
+use lib.IntN.{pos}
+use mir.Facts.{to_z-of_z}
+use borrow.Author.Rules.{sfits_of}
+use Rattle.lent_slots.proofs.Stores.{more, end}
+use Rattle.lent_slots.proofs.word_slots.store.Given as goal
+
+abbrev pub invariant-loop-i : goal.invariant-loop-i
+invariant-loop-i l = (l.i ≤ 16) × (length l.table ≡ length l.initial.table) × (sets l.initial.table l.base l.w ≡ sets l.table (l.base + l.i) (drop l.i l.w))
+
+abbrev pub decreases-loop-i : goal.decreases-loop-i
+decreases-loop-i l = 16 - l.i

@@ -1,0 +1,15 @@
+use Prim.Native.Nat.{ℕ, ◌-◌, ◌≤◌, ◌<◌, ◌^◌}
+use borrow.Author.Rules.{rules}
+use native.Mathlib.Omega.{arith}
+use mathlib.Core.Path.{◌≡◌, sym, ◌∙◌}
+use Rattle.names.specs.Numbers.{up_to, digits}
+use Rattle.names.proofs.Facts.{Was, was}
+use Rattle.names.proofs.Digits.{digits_start, digit_more, digit_none, digits_full, grown, below, enough_small}
+use Rattle.names.proofs.Cursor.digits.Given as goal
+
+-- n digits are taken, and the rest is as it was
+abbrev pub invariant-loop-n : goal.invariant-loop-n
+invariant-loop-n l = (l.n ≤ l.most) × (l.sum < 10 ^ l.n) × (up_to (l.most - l.n) (l.least - l.n) l.sum l.s l.at ≡ digits l.least l.most l.s l.initial.at)
+
+abbrev pub decreases-loop-n : goal.decreases-loop-n
+decreases-loop-n l = l.most - l.n

@@ -1,0 +1,15 @@
+use Prim.Native.Nat.{◌+◌, ◌-◌}
+use borrow.Author.Rules.{rules}
+use native.Mathlib.Omega.{arith}
+use mathlib.Core.Path.{◌≡◌, sym, ◌∙◌}
+use lib.ListN.{length, drop}
+use Rattle.parts.specs.Parts.{part_in, part_end}
+use Rattle.parts.proofs.Laws.{part_begin, part_stop, part_quoted, part_more, part_done}
+use Rattle.parts.proofs.part_end.Given as goal
+
+-- what is left of the part from here ends where all of it does
+abbrev pub invariant-loop-i : goal.invariant-loop-i
+invariant-loop-i l = part_end l.s l.p ≡ l.i + part_in l.inside (drop l.i l.s)
+
+abbrev pub decreases-loop-i : goal.decreases-loop-i
+decreases-loop-i l = length l.s - l.i

@@ -1,0 +1,12 @@
+use mathlib.Core.Bool.{Bool, true, ◌&&◌}
+use mathlib.Core.List.{[], ◌∷◌}
+use mathlib.Core.Path.{ap, ◌∙◌}
+use Rattle.records.specs.Fits.{passes}
+use Rattle.records.proofs.Tests.{chain}
+use native.Mathlib.Numerals.{towards_suc}
+use borrow.Author.Rules.{rules}
+use Rattle.records.proofs.fits.easter_fits.Goals as goal
+
+pub returns : goal.returns
+unfolding passes
+returns c = chain c.between.result (c.year.result ∷ c.between-2.result ∷ c.between-3.result ∷ c.between-4.result ∷ c.between-5.result ∷ c.between-6.result ∷ []) ∙ rw (c.between.ensures, c.year.ensures, c.between-2.ensures, c.between-3.ensures, c.between-4.ensures, c.between-5.ensures, c.between-6.ensures) (simp towards_suc)

@@ -1,0 +1,7 @@
+use Rattle.records.specs.Ranges as ranges
+use borrow.Author.Rules.{rules}
+use Rattle.records.proofs.fits.nth.Goals as goal
+
+pub returns : goal.returns
+unfolding ranges.nth
+returns c = rw (c.between.ensures, c.between-2.ensures)

@@ -1,0 +1,20 @@
+use borrow.Author.Rules.{rules}
+use native.Mathlib.Omega.{arith}
+use Rattle.records.specs.Words.{words_of}
+use Rattle.records.proofs.Laws.{word, wide_fits, wide_word}
+use Rattle.records.proofs.words.weekdays_words.Goals as goal
+
+pub overflow_cast-days : goal.overflow_cast-days
+unfolding words_of
+overflow_cast-days c = wide_fits c.args.r.days (search rules)
+
+pub returns : goal.returns
+unfolding words_of
+returns c = rw (
+  c.record_of.ensures,
+  word c.args.r.first (omega arith),
+  word c.args.r.last (omega arith),
+  wide_word c.args.r.days (search rules),
+  word c.args.r.starts (omega arith),
+  word c.args.r.ends (omega arith),
+)
