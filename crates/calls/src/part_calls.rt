@@ -17,7 +17,7 @@ pub fn part_words(sheet: &[u8], m: Manner, place: usize, table: &mut [i32]) -> P
 }
 
 // The part that begins at a place is read into a table of bytes, in a manner.
-pub fn part_bytes_lem(sheet: &[u8], m: Manner, place: usize, table: &mut [u8]) -> PartAnswer
+pub fn part_bytes(sheet: &[u8], m: Manner, place: usize, table: &mut [u8]) -> PartAnswer
     ensures { (result, table.new) ≡ parts.part_reading_bytes_by m sheet.now place table.old }
 {
     let mut none = [0i32; 0];
@@ -35,7 +35,7 @@ pub fn read_part(sheet: &[u8], place: usize, table: &mut [i32]) -> PartAnswer
 pub fn read_part_bytes(sheet: &[u8], place: usize, table: &mut [u8]) -> PartAnswer
     ensures { (result, table.new) ≡ parts.part_reading_bytes sheet.now place table.old }
 {
-    part_bytes_lem(sheet, Manner::First, place, table)
+    part_bytes(sheet, Manner::First, place, table)
 }
 
 // The part that begins at a place is read in an edition into a table of words.
@@ -55,7 +55,7 @@ pub fn read_part_bytes_in(edition: u32, sheet: &[u8], place: usize, table: &mut 
 {
     let named = edition_of(edition);
     match named {
-        Edition::Known(m) => part_bytes_lem(sheet, m, place, table),
+        Edition::Known(m) => part_bytes(sheet, m, place, table),
         Edition::Unknown => part_refusal(UNKNOWN_EDITION),
     }
 }

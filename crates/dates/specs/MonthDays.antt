@@ -1,4 +1,4 @@
--- An item of a month_day_lem list: a date item, or a month span: [`YYYY` blank] `Mon`[`-Mon`] (docs/RULES.md, 2).
+-- An item of a month-day list: a date item, or a month span: [`YYYY` blank] `Mon`[`-Mon`] (docs/RULES.md, 2).
 use Rattle.std.specs.Prelude.{ℕ, Bool, false, eqb}
 use Rattle.names.specs.Read.{Reader, branch, pure, here, only, ◌>>=◌, ◌>>◌, maybe}
 use Rattle.names.specs.Texts.{sign}
@@ -36,7 +36,7 @@ date_item_after p y odd d = meant p (dates_after (raw_date y odd d)) date_meanin
 unfoldable pub month_day_after : ℕ → Year → Word × Bool → Reader Item
 month_day_after p y w = branch (day_after w.0) (date_item_after p y w.1) (month_item_after p y w)
 
--- an item of a month_day_lem list
+-- an item of a month-day list
 unfoldable pub month_day_item : Reader Item
 month_day_item = do
   p ← here

@@ -11,11 +11,11 @@ mod weeks;
 mod years;
 
 use days::RawOffset;
-pub use month_days::month_day_item_after;
+pub use month_days::{month_day_item, month_day_item_after};
 use names::Cursor;
 use records::Day;
 pub use weeks::week_item;
-pub use years::year_item_after;
+pub use years::{year_item, year_item_after};
 
 // A year that may be left out.
 #[derive(Clone, Copy)]

@@ -1,14 +1,14 @@
-// An item of a month_day_lem list: a date item, or a month span: [`YYYY` blank] `Mon`[`-Mon`].
+// An item of a month-day list: a date item, or a month span: [`YYYY` blank] `Mon`[`-Mon`].
 ghost use Rattle.std.specs.Prelude.{◌≡◌};
 ghost use Rattle.records.specs.Seen.{seen_item};
 ghost use Rattle.names.specs.Read.{got};
 ghost use Rattle.dates.specs.MonthDays as monthdays;
 
-use crate::dates::day_after;
+use crate::dates::{day_after, optional_year};
 use crate::ends::dates_after;
 use crate::meanings::{date_meaning, month_meaning};
 use crate::{DayRead, RawDate, RawMonths, Year};
-use names::{Cursor, MONTH, Named, Step};
+use names::{Cursor, MONTH, Named, Spelled, Step};
 use records::{Day, ItemRead, judged};
 
 // The last month of a span after its first, whether its name calls for a warning, and the place after it.
@@ -113,4 +113,17 @@ pub fn month_day_item_after(
         }
         DayRead::Missing => month_item_after(s, p, c, year, kind, first, odd),
     }
+}
+
+// An item of a month-day list.
+pub fn month_day_item(s: &[u8], c: Cursor) -> ItemRead
+    ensures { monthdays.month_day_item s.now c.at ≡ seen_item result }
+{
+    let y = optional_year(s, c);
+    let year = y.year;
+    let name = y.next.spelled(s);
+    let Spelled::Got(kind, value, odd, d) = name else {
+        return ItemRead::Missing;
+    };
+    month_day_item_after(s, c.at, d, year, kind, value, odd)
 }

@@ -6,7 +6,7 @@ ghost use Rattle.dates.specs.Seen.{then_range};
 
 use crate::ranges::{good_range, step_of, until_last};
 use crate::{RangeRead, RangeThen, RawRange};
-use names::{Cursor, RANGE, Step, YEARS_INVERTED};
+use names::{Cursor, Num, RANGE, Step, YEARS_INVERTED};
 use records::{Item, ItemRead, Meant, YearRange, judged};
 
 // The shape after the first year: `YYYY+` ends in 9999.
@@ -65,4 +65,15 @@ pub fn year_item_after(s: &[u8], p: usize, c: Cursor, first: u16) -> ItemRead
     let range = shape.range;
     let next = shape.next;
     judged(p, year_meaning(range), next)
+}
+
+// An item of a year list.
+pub fn year_item(s: &[u8], c: Cursor) -> ItemRead
+    ensures { years.year_item s.now c.at ≡ seen_item result }
+{
+    let number = c.year(s);
+    let Num::Got(first, d) = number else {
+        return ItemRead::Missing;
+    };
+    year_item_after(s, c.at, d, first as u16)
 }

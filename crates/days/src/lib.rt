@@ -6,11 +6,11 @@ mod holidays;
 mod offsets;
 mod weekdays;
 
-pub use holidays::holiday_item_after;
+pub use holidays::{holiday_item, holiday_item_after};
 use names::Cursor;
 pub use offsets::{OUT_OF_RANGE, day_offset, offset};
 use records::Meant;
-pub use weekdays::weekday_item_after;
+pub use weekdays::{weekday_item, weekday_item_after};
 
 // An offset as it is read: a weekday to go to, the previous where it is below 0, 0 none; a number of days; and whether the weekday's name calls for a warning.
 #[derive(Clone, Copy)]

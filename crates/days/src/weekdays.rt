@@ -10,7 +10,7 @@ ghost use Rattle.days.specs.Seen.{seen_marks, seen_weekdays, then_last, then_mar
 use crate::entries::{bits, entries, no_marks};
 use crate::offsets::{OUT_OF_RANGE, any_days};
 use crate::{LastThen, MarksRead, MarksThen, RawWeekdays, WeekdaysRead, WeekdaysThen};
-use names::{Cursor, Manner, Named, RANGE, Step, WEEKDAY};
+use names::{Cursor, Manner, Named, Num, RANGE, Step, WEEKDAY};
 use records::{Item, ItemRead, Meant, WeekDayRange, judged};
 
 // All five flags.
@@ -259,4 +259,15 @@ pub fn weekday_item_after(s: &[u8], m: Manner, p: usize, c: Cursor, first: u8) -
     let meant = shape.meant;
     let next = shape.next;
     judged(p, meant, next)
+}
+
+// A weekday item.
+pub fn weekday_item(s: &[u8], m: Manner, c: Cursor) -> ItemRead
+    ensures { weekdays.weekday_item m s.now c.at ≡ seen_item result }
+{
+    let name = c.name(s, WEEKDAY);
+    let Num::Got(first, d) = name else {
+        return ItemRead::Missing;
+    };
+    weekday_item_after(s, m, c.at, d, first as u8)
 }

@@ -49,7 +49,7 @@ empty_rule = 11
 abbrev pub broken_quote : ℕ
 broken_quote = 12
 
--- a comment that is not well_formed_lem UTF-8
+-- a comment that is not well-formed UTF-8
 abbrev pub ill_formed_comment : ℕ
 ill_formed_comment = 13
 

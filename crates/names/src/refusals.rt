@@ -35,7 +35,7 @@ pub const EMPTY_RULE: u8 = 11;
 // a quote, and after it another one or none at all
 pub const BROKEN_QUOTE: u8 = 12;
 
-// a comment that is not well_formed_lem UTF-8
+// a comment that is not well-formed UTF-8
 pub const ILL_FORMED_COMMENT: u8 = 13;
 
 // no edition has the given number

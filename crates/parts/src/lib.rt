@@ -6,7 +6,7 @@ ghost use Rattle.names.specs.Quotes as quotes;
 ghost use Rattle.parts.specs.Parts as parts;
 
 // A quote flips inside and outside.
-fn flips(b: u8, inside: bool) -> bool
+pub fn flips(b: u8, inside: bool) -> bool
     ensures { result ≡ quotes.flips b inside }
 {
     if b == b'"' { !inside } else { inside }

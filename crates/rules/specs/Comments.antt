@@ -1,4 +1,4 @@
--- Comment: `"`, one or more bytes from 32 up except `"`, `"`. These bytes are well_formed_lem UTF-8, or it is refused (docs/RULES.md, 1).
+-- Comment: `"`, one or more bytes from 32 up except `"`, `"`. These bytes are well-formed UTF-8, or it is refused (docs/RULES.md, 1).
 use Rattle.std.specs.Prelude.{ℕ, ◌-◌, ltb}
 use Rattle.names.specs.Read.{Reader, pure, refuse, here, only, one, ◌>>=◌, ◌>>◌, ◌or◌}
 use Rattle.names.specs.Chain.{skip}

@@ -25,7 +25,7 @@ quoted = do
 abbrev pub bytes_of : Comment → List ℕ → List ℕ
 bytes_of c s = slice c.start (c.start + c.length) s
 
--- where none stands so, there is no comment; one that does is read if its bytes are well_formed_lem, and else refused at its first quote
+-- where none stands so, there is no comment; one that does is read if its bytes are well-formed, and else refused at its first quote
 abbrev pub CommentsAreJudged : Type 0
 CommentsAreJudged =
     (s : List ℕ) (i : ℕ) → (quoted s i ≡ none → comment s i ≡ none)

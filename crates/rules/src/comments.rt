@@ -1,4 +1,4 @@
-// Comment: `"`, one or more bytes from 32 up except `"`, `"`. These bytes are well_formed_lem UTF-8, or it is refused.
+// Comment: `"`, one or more bytes from 32 up except `"`, `"`. These bytes are well-formed UTF-8, or it is refused.
 ghost use Rattle.std.specs.Prelude.{◌≡◌};
 ghost use Rattle.names.specs.Read.{got};
 ghost use Rattle.names.specs.Chain as chain;

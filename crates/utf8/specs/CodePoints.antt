@@ -30,7 +30,7 @@ unfoldable pub all_scalar : List ℕ → Bool
 all_scalar [] = true
 all_scalar (c ∷ cs) = is_scalar c && all_scalar cs
 
--- bytes are well_formed_lem by the table: its characters from the first byte on end at the last
+-- bytes are well-formed by the table: its characters from the first byte on end at the last
 abbrev pub WellFormed : List ℕ → Type 0
 WellFormed s = utf8_octets s 0 ≡ got tt (length s)
 

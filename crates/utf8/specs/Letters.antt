@@ -1,4 +1,4 @@
--- What may stand between the quotes of a comment: bytes from 32 up except `"`; and of these the well_formed_lem characters.
+-- What may stand between the quotes of a comment: bytes from 32 up except `"`; and of these the well-formed characters.
 use Rattle.std.specs.Prelude.{ℕ, Bool, ◌&&◌, not, List, ◌≡◌, leb, eqb}
 use Prim.Native.Char.{code}
 use Rattle.std.proofs.Math.Seq.{slice}
@@ -27,7 +27,7 @@ letter = plain or longer
 unfoldable pub letters : Reader (Unit {0})
 letters = map (λ _. tt) (many letter)
 
--- where bytes of a comment stand from i up to k and no further, its characters end there exactly when these bytes are well_formed_lem
+-- where bytes of a comment stand from i up to k and no further, its characters end there exactly when these bytes are well-formed
 abbrev pub LettersAreWellFormed : Type 0
 LettersAreWellFormed =
     (s : List ℕ) (i k : ℕ) → skip is_inner s i ≡ got tt k → (letters s i ≡ got tt k → WellFormed (slice i k s)) × (WellFormed (slice i k s) → letters s i ≡ got tt k)

@@ -1,4 +1,4 @@
-// Characters of well_formed_lem UTF-8 (RFC 3629), as they may stand between the quotes of a comment. (The Rust has its text as `str`, and no such test.)
+// Characters of well-formed UTF-8 (RFC 3629), as they may stand between the quotes of a comment. (The Rust has its text as `str`, and no such test.)
 #![tactic(auto)]
 
 ghost use Rattle.std.specs.Prelude.{◌≡◌};
