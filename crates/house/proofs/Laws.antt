@@ -3,16 +3,16 @@ use Prim.Native.Nat.{ℕ}
 use mathlib.Core.Bool.{false}
 use mathlib.Core.List.{List, [], ◌∷◌}
 use mathlib.Core.Path.{◌≡◌, refl, sym, ap, ◌∙◌}
-use denote.Enum.Declared.{tag_of}
-use types.Run.{OneOf, miss}
+
+
 use Rattle.names.specs.declared.Manner.{Manner}
 use Rattle.names.specs.declared.Manner.TheVariants.{First, Second, House}
 use Rattle.records.specs.declared.Time.{Time}
 use Rattle.records.specs.declared.Time.TheVariants.{Fixed, Dawn, Sunrise, Sunset, Dusk}
 use Rattle.records.specs.declared.Item.{Item}
 use Rattle.records.specs.declared.Item.TheVariants.{Years, Months, Dates, Weeks, Weekdays, Holidays, Times}
-use Rattle.records.specs.contracts.Item as item
-use Rattle.records.specs.contracts.Time as time
+use Rattle.records.specs.declared.Span.{Span}
+
 use Rattle.records.specs.Words.{Placed}
 use Rattle.rules.specs.Rules.{Rule}
 use Rattle.house.specs.Spans.{is_clock, minutes}
@@ -31,29 +31,21 @@ pub first_assoc : (a b c : Break) → first_of (first_of a b) c ≡ first_of a (
 first_assoc Nowhere b c = refl
 first_assoc (At k p) b c = refl
 
--- the kinds of times that are no clock times
-abbrev events : List ℕ
-events = 1 ∷ 2 ∷ 3 ∷ 4 ∷ []
-
--- an event is none, and has no minutes of the clock
-pub event_is : (t : Time) → OneOf events (tag_of time.the_type t) → (false ≡ is_clock t) × (0 ≡ minutes t)
+-- an event is no clock time, and has no minutes of the clock
+pub event_is : (t : Time) → ((m : ℕ) → t ≡ Fixed m → ⊥) → (false ≡ is_clock t) × (0 ≡ minutes t)
 unfolding is_clock minutes
-event_is (Fixed m) k = absurd (miss events 0 tt k)
+event_is (Fixed m) k = absurd (k m refl)
 event_is (Dawn m) k = (refl, refl)
 event_is (Sunrise m) k = (refl, refl)
 event_is (Sunset m) k = (refl, refl)
 event_is (Dusk m) k = (refl, refl)
 
--- the kinds of items that are no times
-abbrev others : List ℕ
-others = 0 ∷ 1 ∷ 2 ∷ 3 ∷ 4 ∷ 5 ∷ []
-
 -- made of its fields, a judgement with no later break is the same
 pub same : (h : Judgement) → h ≡ record { first = first_of h.first Nowhere; end = h.end }
 same h = rw (first_none h.first)
 
--- they change nothing, in any manner
-pub other_item : (m : Manner) (h : Judgement) (a : Item) (p : ℕ) → OneOf others (tag_of item.the_type a) → h ≡ with_item m h (a, p)
+-- items that are no times change nothing, in any manner
+pub other_item : (m : Manner) (h : Judgement) (a : Item) (p : ℕ) → ((x : Span) → a ≡ Times x → ⊥) → h ≡ with_item m h (a, p)
 other_item First h a p k = refl
 other_item Second h a p k = refl
 other_item House h (Years r) p k = same h
@@ -62,7 +54,7 @@ other_item House h (Dates r) p k = same h
 other_item House h (Weeks r) p k = same h
 other_item House h (Weekdays r) p k = same h
 other_item House h (Holidays r) p k = same h
-other_item House h (Times x) p k = absurd (miss others 6 tt k)
+other_item House h (Times x) p k = absurd (k x refl)
 
 -- where nothing breaks, nothing is judged to
 pub judged_none : (m : Manner) → judged_by m Nowhere ≡ Nowhere

@@ -3,8 +3,6 @@ use Prim.Native.Nat.{ℕ}
 use mathlib.Core.Bool.{Bool, true, false}
 use mathlib.Core.List.{List, [], ◌∷◌}
 use mathlib.Core.Path.{◌≡◌, refl, sym, ap, ◌∙◌, subst}
-use denote.Enum.Declared.{tag_of}
-use types.Run.{OneOf, miss}
 use Rattle.names.specs.Read.{Read, got, none, refused, Reader, follow, pure}
 use Rattle.names.specs.Names.{word}
 use Rattle.names.proofs.Laws.{or_none}
@@ -12,7 +10,6 @@ use Rattle.records.specs.Seen.{seen_item}
 use Rattle.records.specs.declared.Item.{Item}
 use Rattle.records.specs.declared.ItemRead.{ItemRead}
 use Rattle.records.specs.declared.ItemRead.TheVariants as item
-use Rattle.records.specs.contracts.ItemRead as item_read
 use Rattle.names.specs.declared.Manner.{Manner}
 use Rattle.records.specs.Words.{Placed}
 use Rattle.items.specs.Kinds.{item_of, item_in}
@@ -21,16 +18,12 @@ use Rattle.items.specs.Seen.{Standing, with_kind, Finds}
 use Rattle.items.specs.declared.Kind.{Kind}
 use Rattle.items.specs.declared.Stands.{Stands}
 use Rattle.items.specs.declared.Stands.TheVariants as stands
-use Rattle.items.specs.contracts.Stands as Stands-read
 use Rattle.items.proofs.Picks.{pick_yes, pick_no, pick_then, item_unnamed}
 
 -- an item's answer that is not Missing, returned whole
-abbrev answered : List ℕ
-answered = 0 ∷ 2 ∷ []
-
-pub passed_item : {m : Read Item} (r : ItemRead) → OneOf answered (tag_of item_read.the_type r) → m ≡ seen_item r → (s : List ℕ) (i : ℕ) (n : Reader Item) → follow s i m pure n ≡ seen_item r
+pub passed_item : {m : Read Item} (r : ItemRead) → (r ≡ item.Missing → ⊥) → m ≡ seen_item r → (s : List ℕ) (i : ℕ) (n : Reader Item) → follow s i m pure n ≡ seen_item r
 passed_item (item.Got a c) k e s i n = rw e
-passed_item item.Missing k e s i n = absurd (miss answered 1 tt k)
+passed_item item.Missing k e s i n = absurd (k refl)
 passed_item (item.Refused l p) k e s i n = rw e
 
 -- what is found is what was read, in other words
@@ -42,14 +35,11 @@ pub finds_none : (m : Read (Placed × Kind)) {r : Stands} → Finds m r → r �
 finds_none m h e = subst (Finds m) e h
 
 -- something was found: the others are not tried
-abbrev some : List ℕ
-some = 0 ∷ 1 ∷ 2 ∷ []
-
-pub finds_first : (m : Read (Placed × Kind)) (r : Stands) → OneOf some (tag_of Stands-read.the_type r) → Finds m r → (s : List ℕ) (i : ℕ) (n : Reader (Placed × Kind)) → Finds (follow s i m pure n) r
+pub finds_first : (m : Read (Placed × Kind)) (r : Stands) → (r ≡ stands.Nothing → ⊥) → Finds m r → (s : List ℕ) (i : ℕ) (n : Reader (Placed × Kind)) → Finds (follow s i m pure n) r
 finds_first m (stands.Item a p k c) o e s i n = rw e
 finds_first m (stands.Refused l p) o e s i n = rw e
 finds_first m (stands.Name l v c) o e s i n = e
-finds_first m stands.Nothing o e s i n = absurd (miss some 3 tt o)
+finds_first m stands.Nothing o e s i n = absurd (o refl)
 
 module _ (m : Manner) (s : List ℕ) (i : ℕ) (set : ℕ) (k : Kind) where
   -- a kind alone
@@ -63,7 +53,7 @@ module _ (m : Manner) (s : List ℕ) (i : ℕ) (set : ℕ) (k : Kind) where
 
   -- that kind, and then others
   module _ (ks : List Kind) (r : Stands) (h : Finds (item_in m (picked set (k ∷ [])) s i) r) where
-    pub finds_before : OneOf some (tag_of Stands-read.the_type r) → Finds (item_in m (picked set (k ∷ ks)) s i) r
+    pub finds_before : (r ≡ stands.Nothing → ⊥) → Finds (item_in m (picked set (k ∷ ks)) s i) r
     finds_before o = finds r (pick_then m s i set (k ∷ []) ks) (finds_first (item_in m (picked set (k ∷ [])) s i) r o h s i (item_in m (picked set ks)))
 
     pub pick_after : r ≡ stands.Nothing → item_in m (picked set (k ∷ ks)) s i ≡ item_in m (picked set ks) s i
@@ -79,7 +69,7 @@ module _ (m : Manner) (s : List ℕ) (i set : ℕ) (w : word s i ≡ none) where
 
   module _ (r : Stands) (h : Finds (item_in m (picked set yearly) s i) r) where
     -- an item that begins with a year
-    pub yearly_stands : OneOf some (tag_of Stands-read.the_type r) → Standing m (kinds_of set) s i r
+    pub yearly_stands : (r ≡ stands.Nothing → ⊥) → Standing m (kinds_of set) s i r
     yearly_stands o = finds_standing r (finds r (item_unnamed m s i w set) (finds_first (item_in m (picked set yearly) s i) r o h s i (item_in m (picked set numbered))))
 
     -- or with another number

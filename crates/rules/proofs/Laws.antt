@@ -120,14 +120,10 @@ module _ (x : ℕ) (s : List ℕ) (i : ℕ) where
 
 -- ---- answers, stages and kinds by their numbers
 
--- all that reading a comment finds but none
-abbrev decided : List ℕ
-decided = 0 ∷ 2 ∷ []
-
--- no other is tried
-pub comment_stays : (r : CommentRead) → OneOf decided (tag_of comment-type r) → (s : List ℕ) (i : ℕ) (n : Reader Comment) → follow s i (seen_comment r) pure n ≡ seen_comment r
+-- where reading a comment finds anything, no other is tried
+pub comment_stays : (r : CommentRead) → (r ≡ comment.Missing → ⊥) → (s : List ℕ) (i : ℕ) (n : Reader Comment) → follow s i (seen_comment r) pure n ≡ seen_comment r
 comment_stays (comment.Got x c) k s i n = refl
-comment_stays comment.Missing k s i n = absurd (miss decided 1 tt k)
+comment_stays comment.Missing k s i n = absurd (k refl)
 comment_stays (comment.Refused e p) k s i n = refl
 
 -- where no quote stands, no comment does
@@ -135,14 +131,10 @@ pub no_comment_lem : (s : List ℕ) (i : ℕ) → byte 34 s i ≡ none → comme
 unfolding comments.comment
 no_comment_lem s i e = rw (e)
 
--- the stages but the first
-abbrev begun : List ℕ
-begun = 1 ∷ 2 ∷ 3 ∷ []
-
--- without a modifier, a rule with selectors is open
-pub open_end : (x : Stage) → OneOf begun (tag_of stage-type x) → plain_end x ≡ pure (tail_of 0 no_comment false)
+-- without a modifier, a rule with selectors is open: at each stage but the first
+pub open_end : (x : Stage) → (x ≡ Beginning → ⊥) → plain_end x ≡ pure (tail_of 0 no_comment false)
 unfolding plain_end
-open_end Beginning k = absurd (miss begun 0 tt k)
+open_end Beginning k = absurd (k refl)
 open_end Always k = refl
 open_end Colon k = refl
 open_end (After x) k = refl
