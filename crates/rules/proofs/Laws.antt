@@ -17,8 +17,6 @@ use Rattle.names.proofs.Ended.{one_ended}
 use Rattle.names.proofs.Chains.{many_local}
 use Rattle.names.proofs.Laws.{one_got, one_other, one_past}
 use Rattle.names.proofs.Skips.{skip_more, skip_stop, skip_end, skip_sure}
-use denote.Enum.Declared.{tag_of}
-use types.Run.{OneOf, miss}
 use Rattle.items.specs.declared.Kind.{Kind}
 use Rattle.items.specs.declared.Kind.TheVariants.{Years, MonthDays, Weeks, WeekNumbers, Weekdays, LastWeekdays, Holidays, LastHolidays, Times}
 use Rattle.items.specs.contracts.Kind.{the_type as kind-type}
@@ -138,34 +136,3 @@ open_end Beginning k = absurd (k refl)
 open_end Always k = refl
 open_end Colon k = refl
 open_end (After x) k = refl
-
--- the kinds of the wide part, and the others
-abbrev wide : List ℕ
-wide = 0 ∷ 1 ∷ 2 ∷ 3 ∷ []
-
-pub is_wide_lem : (k : Kind) → OneOf wide (tag_of kind-type k) → true ≡ is_wide k
-unfolding is_wide
-is_wide_lem Years o = refl
-is_wide_lem MonthDays o = refl
-is_wide_lem Weeks o = refl
-is_wide_lem WeekNumbers o = refl
-is_wide_lem Weekdays o = absurd (miss wide 4 tt o)
-is_wide_lem LastWeekdays o = absurd (miss wide 5 tt o)
-is_wide_lem Holidays o = absurd (miss wide 6 tt o)
-is_wide_lem LastHolidays o = absurd (miss wide 7 tt o)
-is_wide_lem Times o = absurd (miss wide 8 tt o)
-
-abbrev narrow : List ℕ
-narrow = 4 ∷ 5 ∷ 6 ∷ 7 ∷ 8 ∷ []
-
-pub is_narrow : (k : Kind) → OneOf narrow (tag_of kind-type k) → false ≡ is_wide k
-unfolding is_wide
-is_narrow Years o = absurd (miss narrow 0 tt o)
-is_narrow MonthDays o = absurd (miss narrow 1 tt o)
-is_narrow Weeks o = absurd (miss narrow 2 tt o)
-is_narrow WeekNumbers o = absurd (miss narrow 3 tt o)
-is_narrow Weekdays o = refl
-is_narrow LastWeekdays o = refl
-is_narrow Holidays o = refl
-is_narrow LastHolidays o = refl
-is_narrow Times o = refl

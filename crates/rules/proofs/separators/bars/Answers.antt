@@ -1,0 +1,12 @@
+use borrow.Author.Rules.{rules}
+use Rattle.names.proofs.Facts.{Went, went}
+use Rattle.rules.specs.Separators.{bars}
+use Rattle.rules.proofs.separators.bars.Goals as goal
+
+pub returns-in_default : goal.returns-in_default
+unfolding bars
+returns-in_default c = rw (((let told : Went = went c.sign-bar.ensures c.in_default.is in told)).is, c.in_default.is)
+
+pub returns : goal.returns
+unfolding bars
+returns c = rw ((let told : Went = went c.sign-bar.ensures c.in-Got.is in told)).is c.sign.ensures
