@@ -3,8 +3,6 @@ use Prim.Native.Nat.{ℕ}
 use mathlib.Core.Bool.{false}
 use mathlib.Core.List.{List, [], ◌∷◌}
 use mathlib.Core.Path.{◌≡◌, refl, sym, ap, ◌∙◌}
-
-
 use Rattle.names.specs.declared.Manner.{Manner}
 use Rattle.names.specs.declared.Manner.TheVariants.{First, Second, House}
 use Rattle.records.specs.declared.Time.{Time}
@@ -12,7 +10,6 @@ use Rattle.records.specs.declared.Time.TheVariants.{Fixed, Dawn, Sunrise, Sunset
 use Rattle.records.specs.declared.Item.{Item}
 use Rattle.records.specs.declared.Item.TheVariants.{Years, Months, Dates, Weeks, Weekdays, Holidays, Times}
 use Rattle.records.specs.declared.Span.{Span}
-
 use Rattle.records.specs.Words.{Placed}
 use Rattle.rules.specs.Rules.{Rule}
 use Rattle.house.specs.Spans.{is_clock, minutes}
