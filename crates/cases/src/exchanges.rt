@@ -4,10 +4,10 @@ ghost use Rattle.std.specs.Prelude.{◌+◌, ◌≤◌, length};
 use crate::lines::digit;
 use crate::readings::fresh_table;
 use calls::read_part;
-use libc::STDOUT_FILENO;
 use notes::note;
 use prints::print_number;
 use sheet::PartAnswer;
+use std::io::Error;
 
 // The reading of a part in both sheets: whether it is the same, whether it was the last, and the next parts' places.
 #[derive(Clone, Copy)]
@@ -243,15 +243,15 @@ fn tab(s: &[u8]) -> usize
 }
 
 // Two sheets with byte 9 between them.
-pub fn run_exchange(part: u8, sheets: &[u8], words: usize)
+pub fn run_exchange(rt: &impl Print, part: u8, sheets: &[u8], words: usize) -> Result<(), Error>
     requires { words ≤ 8192 }
 {
     let at = tab(sheets);
     if at == sheets.len() {
-        return;
+        return Ok(());
     }
     let tally = compare(&sheets[..at], &sheets[at + 1..], digit(part), words);
-    io::write_all(STDOUT_FILENO, b"X ");
-    print_number(tally.same, 32);
-    print_number(tally.other, 10);
+    rt.write_all(b"X ")?;
+    print_number(rt, tally.same, 32)?;
+    print_number(rt, tally.other, 10)
 }

@@ -1,7 +1,8 @@
 // The lines of standard input.
 ghost use Rattle.std.specs.Prelude.{◌≤◌, length};
 
-use libc::STDIN_FILENO;
+use prints::read_full;
+use std::io::Read;
 
 // A byte of the input, or its end.
 #[derive(Clone, Copy)]
@@ -18,9 +19,9 @@ pub struct LineRead {
 }
 
 // The next byte of the input.
-fn read_byte() -> ByteRead {
+fn read_byte(reader: &mut impl Read) -> ByteRead {
     let mut one = [0u8; 1];
-    let n = io::read_full(STDIN_FILENO, &mut one);
+    let n = read_full(reader, &mut one);
     if n == 0 {
         ByteRead::End
     } else {
@@ -29,12 +30,12 @@ fn read_byte() -> ByteRead {
 }
 
 // The bytes up to byte 10, or as many as the space holds. What stands after the last byte 10 is no line.
-pub fn read_line(space: &mut [u8]) -> LineRead
+pub fn read_line(reader: &mut impl Read, space: &mut [u8]) -> LineRead
     ensures { result.bytes ≤ length space.new }
 {
     let mut n: usize = 0;
     while n < space.len() {
-        let next = read_byte();
+        let next = read_byte(reader);
         let ByteRead::Got(b) = next else {
             return LineRead {
                 bytes: 0,

@@ -10,72 +10,76 @@ mod note_lines;
 mod readings;
 
 use exchanges::run_exchange;
-use libc::STDOUT_FILENO;
 use lines::{read_line, words_of};
 use note_lines::run_notes;
 use readings::{run_parts, run_places, run_sheet};
+use std::io::{Error, Read};
 
 // S the sheet. P its parts, and the places where they begin. A both. L, for a long sheet, both without the places.
 // X, with the number of a part for the byte more, two sheets that differ in that part. N the notes.
-fn run_mode(mode: u8, part: u8, sheet: &[u8], words: usize)
+fn run_mode(rt: &impl Print, mode: u8, part: u8, sheet: &[u8], words: usize) -> Result<(), Error>
     requires { words ≤ 8192 }
 {
     match mode {
-        83 => run_sheet(sheet, words),
+        83 => run_sheet(rt, sheet, words),
         80 => {
-            run_parts(sheet, words);
-            run_places(sheet);
+            run_parts(rt, sheet, words)?;
+            run_places(rt, sheet)
         }
         65 => {
-            run_sheet(sheet, words);
-            run_parts(sheet, words);
-            run_places(sheet);
+            run_sheet(rt, sheet, words)?;
+            run_parts(rt, sheet, words)?;
+            run_places(rt, sheet)
         }
         76 => {
-            run_sheet(sheet, words);
-            run_parts(sheet, words);
+            run_sheet(rt, sheet, words)?;
+            run_parts(rt, sheet, words)
         }
-        88 => run_exchange(part, sheet, words),
-        78 => run_notes(sheet),
-        _ => {}
+        88 => run_exchange(rt, part, sheet, words),
+        78 => run_notes(rt, sheet),
+        _ => Ok(()),
     }
 }
 
 // A line; one that is too short for a case is only written.
-fn run_line(line: &[u8]) {
-    io::write_all(STDOUT_FILENO, line);
-    io::write_all(STDOUT_FILENO, b"\n");
+fn run_line(rt: &impl Print, line: &[u8]) -> Result<(), Error> {
+    rt.write_all(line)?;
+    rt.write_all(b"\n")?;
     if line.len() < 6 {
-        return;
+        return Ok(());
     }
     run_mode(
+        rt,
         line[4],
         line[5],
         &line[6..],
         words_of(line[0], line[1], line[2], line[3]),
-    );
+    )
 }
 
 // Reads a line into this space and runs it; false at the end of the input.
-fn run_next(space: &mut [u8]) -> bool {
-    let read = read_line(space);
+fn run_next(rt: &impl Print, reader: &mut impl Read, space: &mut [u8]) -> Result<bool, Error> {
+    let read = read_line(reader, space);
     let n = read.bytes;
     if read.is_found {
-        run_line(&space[..n]);
+        run_line(rt, &space[..n])?;
     }
-    read.is_found
+    Ok(read.is_found)
 }
 
 // The same with a space that a line fits into.
-fn run_one() -> bool {
+fn run_one(rt: &impl Print, reader: &mut impl Read) -> Result<bool, Error> {
     let mut space = [0u8; 8192];
-    run_next(&mut space)
+    run_next(rt, reader, &mut space)
 }
 
-// (A proved loop has to end, and nothing says that the input does: it counts down from a number that no run uses up.)
-fn main() {
-    let mut turns = u64::MAX;
-    while turns > 0 && run_one() {
-        turns -= 1;
+// (A proved loop has to end, and nothing says that the input does: it counts up to a number that no run comes to.)
+fn main(rt: HostRuntime) -> Result<(), Error> {
+    let mut reader = rt.reader();
+    for _ in 0..u64::MAX {
+        if !run_one(&rt, &mut reader)? {
+            break;
+        }
     }
+    Ok(())
 }

@@ -2,9 +2,9 @@
 ghost use Rattle.std.specs.Prelude.{◌≡◌, ◌≤◌, length};
 
 use calls::{read_part, read_sheet};
-use libc::STDOUT_FILENO;
 use prints::{print_answer, print_number, print_records};
 use sheet::PartAnswer;
+use std::io::Error;
 
 // What stands in a table before a reading.
 const MARK: i32 = 7777;
@@ -32,88 +32,96 @@ fn is_kept(table: &[i32], n: usize) -> bool {
 }
 
 // The records of an answer. A word after them that was changed gives a line that no case expects.
-fn print_table(table: &[i32], n: usize) {
-    print_records(table, n);
+fn print_table(rt: &impl Print, table: &[i32], n: usize) -> Result<(), Error> {
+    print_records(rt, table, n)?;
     if !is_kept(table, n) {
-        io::write_all(STDOUT_FILENO, b"changed\n");
+        return rt.write_all(b"changed\n");
     }
+    Ok(())
 }
 
 // The sheet, read with a table of so many words.
-fn show_sheet(s: &[u8], table: &mut [i32], words: usize)
+fn show_sheet(rt: &impl Print, s: &[u8], table: &mut [i32], words: usize) -> Result<(), Error>
     requires { words ≤ length table.old }
 {
     let lent = &mut table[..words];
     let a = read_sheet(s, lent);
-    print_answer(a.number, a.place, a.records, a.warnings, 10);
-    print_table(lent, a.records);
+    print_answer(rt, a.number, a.place, a.records, a.warnings, 10)?;
+    print_table(rt, lent, a.records)
 }
 
 // The sheet.
-pub fn run_sheet(s: &[u8], words: usize)
+pub fn run_sheet(rt: &impl Print, s: &[u8], words: usize) -> Result<(), Error>
     requires { words ≤ 8192 }
 {
     let mut table = fresh_table();
-    show_sheet(s, &mut table, words);
+    show_sheet(rt, s, &mut table, words)
 }
 
 // The part at a place, with the next part's place and whether it was the last.
-fn show_part(s: &[u8], place: usize, table: &mut [i32], words: usize) -> PartAnswer
+fn show_part(
+    rt: &impl Print,
+    s: &[u8],
+    place: usize,
+    table: &mut [i32],
+    words: usize,
+) -> Result<PartAnswer, Error>
     requires { words ≤ length table.old }
 {
     let lent = &mut table[..words];
     let a = read_part(s, place, lent);
-    print_answer(a.number, a.place, a.records, a.warnings, 32);
-    print_number(a.next as u64, 32);
-    print_number(if a.last { 1 } else { 0 }, 10);
-    print_table(lent, a.records);
-    a
+    print_answer(rt, a.number, a.place, a.records, a.warnings, 32)?;
+    print_number(rt, a.next as u64, 32)?;
+    print_number(rt, if a.last { 1 } else { 0 }, 10)?;
+    print_table(rt, lent, a.records)?;
+    Ok(a)
 }
 
 // A part.
-fn run_part(s: &[u8], place: usize, words: usize) -> PartAnswer
+fn run_part(rt: &impl Print, s: &[u8], place: usize, words: usize) -> Result<PartAnswer, Error>
     requires { words ≤ 8192 }
 {
     let mut table = fresh_table();
-    show_part(s, place, &mut table, words)
+    show_part(rt, s, place, &mut table, words)
 }
 
 // Each part, from place 0 on by `next`. A sheet of 4,096 bytes has no more than 4,097.
-pub fn run_parts(s: &[u8], words: usize)
+pub fn run_parts(rt: &impl Print, s: &[u8], words: usize) -> Result<(), Error>
     requires { words ≤ 8192 }
 {
     let mut place: usize = 0;
     let mut k: usize = 0;
     while k < 4097 {
-        let a = run_part(s, place, words);
+        let a = run_part(rt, s, place, words)?;
         if a.last {
-            return;
+            return Ok(());
         }
         place = a.next;
         k += 1;
     }
+    Ok(())
 }
 
 // Writes a place that is not refused as no part's beginning.
-fn try_place(s: &[u8], place: usize) {
+fn try_place(rt: &impl Print, s: &[u8], place: usize) -> Result<(), Error> {
     let mut table = [0i32; 16];
     let a = read_part(s, place, &mut table);
     if a.number != 2 {
-        io::write_all(STDOUT_FILENO, b" ");
-        io::print_decimal(STDOUT_FILENO, place as u64);
+        return print!(rt; " {place}");
     }
+    Ok(())
 }
 
 // The places where a part begins: all from 0 to one after the sheet's end are tried, and the largest.
-pub fn run_places(s: &[u8]) {
-    io::write_all(STDOUT_FILENO, b"B");
+pub fn run_places(rt: &impl Print, s: &[u8]) -> Result<(), Error> {
+    rt.write_all(b"B")?;
     let mut place = 0;
     while place < s.len() {
-        try_place(s, place);
+        try_place(rt, s, place)?;
         place += 1;
     }
-    try_place(s, place);
-    try_place(s, std::num::wrapping_add_usize(place, 1));
-    try_place(s, usize::MAX);
-    io::write_all(STDOUT_FILENO, b"\n");
+    try_place(rt, s, place)?;
+    try_place(rt, s, std::num::wrapping_add_usize(place, 1))?;
+    try_place(rt, s, usize::MAX)?;
+    rt.write_all(b"\n")
 }

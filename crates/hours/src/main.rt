@@ -4,31 +4,31 @@
 
 ghost use Rattle.std.specs.Prelude.{◌≤◌, length};
 
-use libc::{STDIN_FILENO, STDOUT_FILENO};
 use outputs::{MOST, output};
+use std::io::{Error, Read};
 
-// What was read: how many bytes, or that a read failed.
-#[derive(Clone, Copy)]
+// What was read: how many bytes, and the error of a read that failed.
+#[derive(Drop)]
 struct Input {
     bytes: usize,
-    is_failed: bool,
+    failure: Option<Error>,
 }
 
 // Standard input, up to its end or as much of it as the space holds.
-fn read_input(space: &mut [u8]) -> Input
+fn read_input(reader: &mut impl Read, space: &mut [u8]) -> Input
     ensures { result.bytes ≤ length space.new }
 {
     let mut n: usize = 0;
     while n < space.len() {
-        let rest = &mut space[n..];
-        let got = libc::read(STDIN_FILENO, rest);
-        if got < 0 {
-            return Input {
-                bytes: n,
-                is_failed: true,
-            };
-        }
-        let more = io::count(got, rest);
+        let more = match reader.read(&mut space[n..]) {
+            Ok(more) => more,
+            Err(e) => {
+                return Input {
+                    bytes: n,
+                    failure: Some(e),
+                };
+            }
+        };
         if more == 0 {
             break;
         }
@@ -36,22 +36,22 @@ fn read_input(space: &mut [u8]) -> Input
     }
     Input {
         bytes: n,
-        is_failed: false,
+        failure: None,
     }
 }
 
-fn main() {
+fn main(rt: HostRuntime) -> Result<(), Error> {
     // (One byte more than a sheet may have shows that it has too many.)
     let mut space = [0u8; 4097];
-    let input = read_input(&mut space);
-    if input.is_failed {
-        os::fail(b"hours: cannot read standard input");
-        return;
+    let input = read_input(&mut rt.reader(), &mut space);
+    if let Some(e) = input.failure {
+        return eprintln!(rt; "hours: cannot read standard input: {e}");
     }
     let bytes = input.bytes;
     let mut out = [0u8; MOST];
     let n = output(&space[..bytes], &mut out);
-    if !io::write_all(STDOUT_FILENO, &out[..n]) {
-        os::fail(b"hours: cannot write to standard output");
+    if let Err(e) = rt.write_all(&out[..n]) {
+        return eprintln!(rt; "hours: cannot write to standard output: {e}");
     }
+    Ok(())
 }

@@ -2,29 +2,47 @@
 // Its file `stdout` is the second reader's, not its own: python3 tools/reference.py sheets crates/hours_runs/stdin
 #![tactic(auto)]
 
-use bytes::scan::find;
-use libc::{STDIN_FILENO, STDOUT_FILENO};
+ghost use Rattle.std.specs.Prelude.{◌≤◌, length};
+
 use outputs::{MOST, output};
+use prints::read_full;
+use std::io::Error;
+
+// The place of the first byte 10 from a place on, or the end.
+fn line_end(s: &[u8], from: usize) -> usize
+    requires { from ≤ length s.now }
+    ensures { (from ≤ result) × (result ≤ length s.now) }
+{
+    let mut i = from;
+    while i < s.len() {
+        if s[i] == b'\n' {
+            return i;
+        }
+        i += 1;
+    }
+    s.len()
+}
 
 // A sheet.
-fn run(sheet: &[u8]) {
+fn run(rt: &impl Print, sheet: &[u8]) -> Result<(), Error> {
     let mut out = [0u8; MOST];
     let n = output(sheet, &mut out);
-    io::write_all(STDOUT_FILENO, &out[..n]);
+    rt.write_all(&out[..n])
 }
 
 // Each sheet.
-fn run_all(sheets: &[u8]) {
+fn run_all(rt: &impl Print, sheets: &[u8]) -> Result<(), Error> {
     let mut at = 0;
     while at <= sheets.len() {
-        let end = find(sheets, at, sheets.len(), b'\n');
-        run(&sheets[at..end]);
+        let end = line_end(sheets, at);
+        run(rt, &sheets[at..end])?;
         at = end + 1;
     }
+    Ok(())
 }
 
-fn main() {
-    let mut space = io::large_buffer();
-    let n = io::read_full(STDIN_FILENO, &mut space);
-    run_all(&space[..n]);
+fn main(rt: HostRuntime) -> Result<(), Error> {
+    let mut space = [0u8; 65536];
+    let n = read_full(&mut rt.reader(), &mut space);
+    run_all(&rt, &space[..n])
 }

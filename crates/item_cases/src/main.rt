@@ -5,10 +5,10 @@
 ghost use Rattle.std.specs.Prelude.{◌≤◌, length};
 
 use items::{HOLIDAYS, MONTH_DAYS, Stands, TIMES, WEEK_NUMBERS, WEEKDAYS, YEARS, look_at};
-use libc::{STDIN_FILENO, STDOUT_FILENO};
 use names::{Cursor, Manner};
-use prints::size;
+use prints::{read_full, size};
 use records::keep_item;
+use std::io::Error;
 
 // A line that is being written: bytes past its end are left out.
 #[derive(Clone, Copy)]
@@ -119,20 +119,20 @@ fn find(s: &[u8], from: usize, b: u8) -> usize
 }
 
 // Whether an item is read as it should be; if not, what it gives is written.
-fn right(kind: u8, text: &[u8], answer: &[u8]) -> bool {
+fn right(rt: &impl Print, kind: u8, text: &[u8], answer: &[u8]) -> Result<bool, Error> {
     let t = shown(look_at(text, Manner::First, Cursor { at: 0 }, kind_of(kind)));
     let bytes = t.bytes;
     // (`count` says that the length is within the bytes.)
     let n = io::count(t.len as isize, &bytes);
     let made = &bytes[..n];
     if check::same(made, answer) {
-        return true;
+        return Ok(true);
     }
-    io::write_all(STDOUT_FILENO, text);
-    io::write_all(STDOUT_FILENO, b": ");
-    io::write_all(STDOUT_FILENO, made);
-    io::write_all(STDOUT_FILENO, b"\n");
-    false
+    rt.write_all(text)?;
+    rt.write_all(b": ")?;
+    rt.write_all(made)?;
+    rt.write_all(b"\n")?;
+    Ok(false)
 }
 
 // Lines that were read, and those whose answer is another.
@@ -143,7 +143,7 @@ struct Counts {
 }
 
 // Reads each line; one of another form is passed over.
-fn run(s: &[u8]) -> Counts {
+fn run(rt: &impl Print, s: &[u8]) -> Result<Counts, Error> {
     let mut lines: u64 = 0;
     let mut other: u64 = 0;
     let mut at = 0;
@@ -153,22 +153,21 @@ fn run(s: &[u8]) -> Counts {
         if at + 2 <= tab {
             if tab < end {
                 lines += 1;
-                if !right(s[at], &s[at + 2..tab], &s[tab + 1..end]) {
+                if !right(rt, s[at], &s[at + 2..tab], &s[tab + 1..end])? {
                     other += 1;
                 }
             }
         }
         at = end + 1;
     }
-    Counts { lines, other }
+    Ok(Counts { lines, other })
 }
 
-fn main() {
+fn main(rt: HostRuntime) -> Result<(), Error> {
     let mut space = io::large_buffer();
-    let n = io::read_full(STDIN_FILENO, &mut space);
-    let counts = run(&space[..n]);
-    io::print_decimal(STDOUT_FILENO, counts.lines);
-    io::write_all(STDOUT_FILENO, b" items, ");
-    io::print_decimal(STDOUT_FILENO, counts.other);
-    io::write_all(STDOUT_FILENO, b" read otherwise\n");
+    let n = read_full(&mut rt.reader(), &mut space);
+    let counts = run(&rt, &space[..n])?;
+    let lines = counts.lines;
+    let other = counts.other;
+    println!(rt; "{lines} items, {other} read otherwise")
 }

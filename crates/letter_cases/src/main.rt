@@ -5,9 +5,9 @@
 ghost use Rattle.std.specs.Prelude.{◌≤◌};
 ghost use Rattle.io.specs.Counts.{IsPrefixLen};
 
-use libc::{STDIN_FILENO, STDOUT_FILENO};
 use names::Cursor;
-use prints::print_number;
+use prints::{print_number, read_full};
+use std::io::Error;
 use utf8::letters;
 
 // The number that a hexadecimal digit stands for; 0 for another byte.
@@ -39,28 +39,29 @@ fn decode(line: &[u8], space: &mut [u8]) -> usize
 }
 
 // Writes a line and the place where the characters of its text end.
-fn run_line(line: &[u8]) {
+fn run_line(rt: &impl Print, line: &[u8]) -> Result<(), Error> {
     let mut space = [0u8; 64];
     let n = decode(line, &mut space);
     let c = letters(&space[..n], Cursor { at: 1 });
-    io::write_all(STDOUT_FILENO, line);
-    io::write_all(STDOUT_FILENO, b" ");
-    print_number(c.at as u64, b'\n');
+    rt.write_all(line)?;
+    rt.write_all(b" ")?;
+    print_number(rt, c.at as u64, b'\n')
 }
 
 // Reads each line: what stands before a byte that is no digit.
-fn run(s: &[u8]) {
+fn run(rt: &impl Print, s: &[u8]) -> Result<(), Error> {
     let mut at = 0;
     while at < s.len() {
         let end = Cursor { at }.skip(s, b'0', b'f');
         let e = end.at;
-        run_line(&s[at..e]);
+        run_line(rt, &s[at..e])?;
         at = e + 1;
     }
+    Ok(())
 }
 
-fn main() {
+fn main(rt: HostRuntime) -> Result<(), Error> {
     let mut space = io::large_buffer();
-    let n = io::read_full(STDIN_FILENO, &mut space);
-    run(&space[..n]);
+    let n = read_full(&mut rt.reader(), &mut space);
+    run(&rt, &space[..n])
 }
