@@ -5,11 +5,8 @@ use mathlib.Core.Bool.{true}
 use native.Mathlib.Nat.{sub-zero}
 use lib.IntN.{ℤ}
 use borrow.Author.Rules.{rules}
-use borrow.Author.Tests.{eq-eqb, ne_eqb}
-use mathlib.Core.Path.{◌≡◌, refl, sym, ap, ◌∙◌}
-use lib.ListN.{length}
+use mathlib.Core.Path.{◌≡◌, sym, ap, ◌∙◌}
 use Prim.Native.Nat.{◌+◌, ◌-◌, ◌≤◌, ◌<◌}
-use native.Mathlib.Omega.{arith}
 use mathlib.Core.Bool.{Bool, false, ◌&&◌}
 use Rattle.lent_slots.proofs.SlotLaws.{slot_next, slot_end}
 use Rattle.tables.proofs.Tables.{table_none, table_forward, table_false}
@@ -27,10 +24,10 @@ pub record_at-requires : goal.record_at-requires
 record_at-requires c = rw (← c.slots-n.ensures) (search rules)
 
 pub returns-then-not-next : goal.returns-then-not-next
-returns-then-not-next c = let t : Tables = (c.args.words.now, c.args.bytes.now) in let h : c.loop-slot.slot < c.slots-n.result = search rules in let q : tables.goes_on 0 (slots.records_from t c.slots-n.result 0) ≡ (c.stepped-next.result.fits && tables.goes_on c.stepped-next.result.left (slots.records_from t (c.slots-n.result - (c.loop-slot.slot + 1)) (c.loop-slot.slot + 1))) = c.loop-slot.invariant.1 ∙ ap (tables.goes_on c.loop-slot.left) (slot_next t c.slots-n.result c.loop-slot.slot h ∙ ap (λ (w : List ℤ). w ∷ slots.records_from t (c.slots-n.result - (c.loop-slot.slot + 1)) (c.loop-slot.slot + 1)) (sym c.record_at.ensures)) ∙ c.stepped-next.ensures (slots.records_from t (c.slots-n.result - (c.loop-slot.slot + 1)) (c.loop-slot.slot + 1)) in let f : c.stepped-next.result.fits ≡ false = c.if-not-next.true in table_false t (λ y. c.if-n-eq0.false (c.slots-n.ensures ∙ y)) (ap (λ j. tables.goes_on 0 (slots.records_from t j 0)) (sym c.slots-n.ensures) ∙ q ∙ ap (λ (b : Bool). b && tables.goes_on c.stepped-next.result.left (slots.records_from t (c.slots-n.result - (c.loop-slot.slot + 1)) (c.loop-slot.slot + 1))) f)
+returns-then-not-next c = let t : Tables = (c.args.words.now, c.args.bytes.now) in let h : c.loop-slot.slot < c.slots-n.result = search rules in let q : tables.goes_on 0 (slots.records_from t c.slots-n.result 0) ≡ (c.stepped-next.result.fits && tables.goes_on c.stepped-next.result.left (slots.records_from t (c.slots-n.result - (c.loop-slot.slot + 1)) (c.loop-slot.slot + 1))) = c.loop-slot.invariant.1 ∙ ap (tables.goes_on c.loop-slot.left) (slot_next t c.slots-n.result c.loop-slot.slot h ∙ ap (λ (w : List ℤ). w ∷ slots.records_from t (c.slots-n.result - (c.loop-slot.slot + 1)) (c.loop-slot.slot + 1)) (sym c.record_at.ensures)) ∙ c.stepped-next.ensures (slots.records_from t (c.slots-n.result - (c.loop-slot.slot + 1)) (c.loop-slot.slot + 1)) in let f : c.stepped-next.result.fits ≡ false = not-true c.stepped-next.result.fits c.if-not-next.true in table_false t (λ y. c.if-n-eq0.false (c.slots-n.ensures ∙ y)) (ap (λ j. tables.goes_on 0 (slots.records_from t j 0)) (sym c.slots-n.ensures) ∙ q ∙ ap (λ (b : Bool). b && tables.goes_on c.stepped-next.result.left (slots.records_from t (c.slots-n.result - (c.loop-slot.slot + 1)) (c.loop-slot.slot + 1))) f)
 
 pub loop-slot-preserved : goal.loop-slot-preserved
-loop-slot-preserved c = let t : Tables = (c.args.words.now, c.args.bytes.now) in let h : c.loop-slot.slot < c.slots-n.result = search rules in let q : tables.goes_on 0 (slots.records_from t c.slots-n.result 0) ≡ (c.stepped-next.result.fits && tables.goes_on c.stepped-next.result.left (slots.records_from t (c.slots-n.result - (c.loop-slot.slot + 1)) (c.loop-slot.slot + 1))) = c.loop-slot.invariant.1 ∙ ap (tables.goes_on c.loop-slot.left) (slot_next t c.slots-n.result c.loop-slot.slot h ∙ ap (λ (w : List ℤ). w ∷ slots.records_from t (c.slots-n.result - (c.loop-slot.slot + 1)) (c.loop-slot.slot + 1)) (sym c.record_at.ensures)) ∙ c.stepped-next.ensures (slots.records_from t (c.slots-n.result - (c.loop-slot.slot + 1)) (c.loop-slot.slot + 1)) in let f : c.stepped-next.result.fits ≡ true = c.if-not-next.false in (search rules, q ∙ ap (λ (b : Bool). b && tables.goes_on c.stepped-next.result.left (slots.records_from t (c.slots-n.result - (c.loop-slot.slot + 1)) (c.loop-slot.slot + 1))) f)
+loop-slot-preserved c = let t : Tables = (c.args.words.now, c.args.bytes.now) in let h : c.loop-slot.slot < c.slots-n.result = search rules in let q : tables.goes_on 0 (slots.records_from t c.slots-n.result 0) ≡ (c.stepped-next.result.fits && tables.goes_on c.stepped-next.result.left (slots.records_from t (c.slots-n.result - (c.loop-slot.slot + 1)) (c.loop-slot.slot + 1))) = c.loop-slot.invariant.1 ∙ ap (tables.goes_on c.loop-slot.left) (slot_next t c.slots-n.result c.loop-slot.slot h ∙ ap (λ (w : List ℤ). w ∷ slots.records_from t (c.slots-n.result - (c.loop-slot.slot + 1)) (c.loop-slot.slot + 1)) (sym c.record_at.ensures)) ∙ c.stepped-next.ensures (slots.records_from t (c.slots-n.result - (c.loop-slot.slot + 1)) (c.loop-slot.slot + 1)) in let f : c.stepped-next.result.fits ≡ true = not-false c.stepped-next.result.fits c.if-not-next.false in (search rules, q ∙ ap (λ (b : Bool). b && tables.goes_on c.stepped-next.result.left (slots.records_from t (c.slots-n.result - (c.loop-slot.slot + 1)) (c.loop-slot.slot + 1))) f)
 
 pub returns : goal.returns
 unfolding tables.goes_on

@@ -1,18 +1,5 @@
-use Rattle.lent_slots.specs.Tables.{Tables}
-use borrow.Author.Tests.{not-true, not-false}
-use mathlib.Core.List.{List, ◌∷◌}
-use mathlib.Core.Bool.{true}
-use native.Mathlib.Nat.{sub-zero}
-use lib.IntN.{ℤ}
-use borrow.Author.Rules.{rules}
-use borrow.Author.Tests.{eq-eqb, ne_eqb}
-use mathlib.Core.Path.{◌≡◌, refl, sym, ap, ◌∙◌}
-use lib.ListN.{length}
-use Prim.Native.Nat.{◌+◌, ◌-◌, ◌≤◌, ◌<◌}
-use native.Mathlib.Omega.{arith}
-use mathlib.Core.Bool.{Bool, false, ◌&&◌}
-use Rattle.lent_slots.proofs.SlotLaws.{slot_next, slot_end}
-use Rattle.tables.proofs.Tables.{table_none, table_forward, table_false}
+use mathlib.Core.Path.{◌≡◌}
+use Prim.Native.Nat.{◌-◌, ◌≤◌}
 use Rattle.lent_slots.specs.Slots as slots
 use Rattle.tables.specs.Tables as tables
 use Rattle.tables.proofs.table_fits.Given as goal
