@@ -9,7 +9,7 @@ use lent_slots::slots;
 use tables::table_fits;
 
 // A number that a reading of a sheet can answer.
-fn number_fits_lem(n: u32) -> bool
+fn number_fits(n: u32) -> bool
     ensures { result ≡ answers.number_fits n }
 {
     (n <= 1) | ((n >= 3) & (n <= 13) | ((n == 19) | (n >= 22) & (n <= 23)))
@@ -23,7 +23,7 @@ fn answer_fits(a: Answer, words: &[i32], bytes: &[u8]) -> bool
         return (a.records as usize == slots(words, bytes)) & table_fits(words, bytes);
     }
     let none = (words.len() == 0) & (bytes.len() == 0);
-    number_fits_lem(a.number) & ((a.records == 0) & ((a.warnings == 0) & none))
+    number_fits(a.number) & ((a.records == 0) & ((a.warnings == 0) & none))
 }
 
 // A tally takes in an answer and its records: 16 if they do not fit, then 15 if a count would pass the limit; a refusal leaves the tally.
