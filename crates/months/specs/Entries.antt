@@ -1,4 +1,4 @@
--- The list of entries, one for each rule of a table: its head's number, and the months that its month_day_lem items can touch. In lent bytes an entry is two numbers.
+-- The list of entries, one for each rule of a table: its head's number, and the months that its month-day items can touch. In lent bytes an entry is two numbers.
 use Rattle.std.specs.Prelude.{ℕ, zero, suc, ◌+◌, ◌*◌, ◌-◌, ◌/◌, ◌%◌, List, [], ◌∷◌, ltb, length}
 use Rattle.std.proofs.lemmas.List.Edits.{sets}
 use Rattle.names.specs.Tests.{if◌then◌else◌}

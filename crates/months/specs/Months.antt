@@ -1,4 +1,4 @@
--- The months that a rule's month_day_lem items can touch in any year (docs/RULES.md, 12).
+-- The months that a rule's month-day items can touch in any year (docs/RULES.md, 12).
 use Rattle.std.specs.Prelude.{ℕ, ◌+◌, Bool, true, false, ◌&&◌, ◌||◌, not, List, [], ◌∷◌, leb, eqb, ℤ}
 use Rattle.std.specs.Int.Signed.{le_z}
 use Rattle.names.specs.Tests.{if◌then◌else◌}
@@ -43,7 +43,7 @@ dates_can r m =
     if (no_offset r.start_offset && no_offset r.end_offset) && (eqb (r.start).year 0 && eqb (r.end).year 0) then ends_can (r.start).day (r.end).day m
     else true
 
--- whether an item can touch month m; only month_day_lem items are asked
+-- whether an item can touch month m; only month-day items are asked
 unfoldable pub item_can : Item → ℕ → Bool
 item_can (Years r) m = false
 item_can (Months r) m = round r.first r.last m
@@ -57,7 +57,7 @@ unfoldable pub any_can : List Item → ℕ → Bool
 any_can [] m = false
 any_can (a ∷ l) m = item_can a m || any_can l m
 
--- no month_day_lem items: all months
+-- no month-day items: all months
 abbrev pub list_can : List Item → ℕ → Bool
 list_can [] m = true
 list_can (a ∷ l) m = any_can (a ∷ l) m

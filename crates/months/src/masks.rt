@@ -28,7 +28,7 @@ impl Seen {
         self
     }
 
-    // What the rule comes to: all months where it has no month_day_lem item.
+    // What the rule comes to: all months where it has no month-day item.
     fn ended(self) -> bool
         ensures { result ≡ seen.ended self }
     {

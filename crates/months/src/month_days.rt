@@ -1,4 +1,4 @@
-// Whether a month_day_lem item can touch a month in any year.
+// Whether a month-day item can touch a month in any year.
 ghost use Rattle.std.specs.Prelude.{◌≡◌};
 ghost use Rattle.months.specs.Months as months;
 
@@ -58,7 +58,7 @@ fn dates_can(r: DateSpan, x: u8) -> bool
     true
 }
 
-// An item; others than month_day_lem items are not asked.
+// An item; others than month-day items are not asked.
 pub fn item_can(a: Item, x: u8) -> bool
     ensures { result ≡ months.item_can a x }
 {
