@@ -1,4 +1,4 @@
-use Prim.Native.Nat.{ℕ, ◌+◌, ◌*◌, ◌-◌, ◌≤◌}
+use Prim.Native.Nat.{ℕ, ◌+◌, ◌*◌, ◌≤◌}
 use native.Mathlib.Omega.{arith}
 use mathlib.Core.Bool.{true, false}
 use mathlib.Core.List.{List}
@@ -8,12 +8,12 @@ use lib.ListN.{length}
 use borrow.Author.Tests.{ltb-false}
 use lib.Dec.{ltb}
 use Rattle.lent_slots.specs.Tables.{Tables}
-use Rattle.lent_slots.specs.Slots.{number_from, slots}
+use Rattle.lent_slots.specs.Slots.{number_from}
 use Rattle.tables.specs.Tables.{table_fits}
 use Rattle.table_rules.specs.Rules.{rules_in}
 use Rattle.table_rules.specs.Numbers.{written}
 use Rattle.table_rules.proofs.Heads.{fits_rule}
-use Rattle.months.specs.Entries.{entries_of, heads_moved, renewed}
+use Rattle.months.specs.Entries.{entries_of, renewed}
 use Rattle.months.proofs.EntryLaws.{renew_no_fit, renew_short, renew_past, renew_all}
 use Rattle.months.proofs.entries.renew_months.Goals as goal
 
@@ -73,9 +73,6 @@ returns c = let t : Tables = (c.args.words.now, c.args.bytes.now) in
     let w = written c.args.list.now (c.args.first * 2) (entries_of (number_from c.args.list.now (c.args.first * 8)) (rules_in t)) in
     let e : c.fill_entries.new.list ≡ w = c.fill_entries.ensures ∙ ap (λ z. written c.args.list.now (c.args.first * 2) (entries_of z (rules_in t))) c.number_in-base.ensures in
     let r : c.move_heads.new.list ≡ renewed t c.args.list.now c.args.all c.args.first c.args.old =
-    c.move_heads.ensures
-    ∙ ap (λ m. heads_moved c.args.old m c.fill_entries.new.list (c.args.first + c.rule_count-n.result) (c.args.all - (c.args.first + c.rule_count-n.result))) c.slots.ensures
-    ∙ ap (λ (x : List ℕ). heads_moved c.args.old (slots t) x (c.args.first + c.rule_count-n.result) (c.args.all - (c.args.first + c.rule_count-n.result))) e
-    ∙ ap (λ m. heads_moved c.args.old (slots t) w (c.args.first + m) (c.args.all - (c.args.first + m))) c.rule_count-n.ensures
+    cc
     in
     ap (λ (x : List ℕ). (0, x)) r ∙ renew_all t c.args.list.now c.args.all c.args.first c.args.old f c.if-list-all.false p
