@@ -1,5 +1,5 @@
 -- Entries one after the other in lent bytes.
-use Prim.Native.Nat.{ℕ, suc, ◌+◌, ◌*◌, ◌-◌, ◌/◌, ◌%◌, ◌≤◌, ◌<◌}
+use Prim.Native.Nat.{ℕ, suc, ◌+◌, ◌*◌, ◌-◌, ◌/◌, ◌≤◌, ◌<◌}
 use native.Mathlib.Nat.{div-add-mod'}
 use native.Mathlib.Numerals.{add-one}
 use native.Mathlib.Omega.{arith}
@@ -10,10 +10,9 @@ use mathlib.Core.Path.{◌≡◌, refl, sym, ap, ◌∙◌}
 use lib.Dec.{ltb}
 use lib.ListN.{length}
 use lib.Seq.{sets, length-sets}
-use Rattle.names.specs.Tests.{if◌then◌else◌}
 use Rattle.lent_slots.specs.Bytes.{little_endian}
 use Rattle.lent_slots.specs.Tables.{Tables}
-use Rattle.lent_slots.specs.Slots.{number_from, slots}
+use Rattle.lent_slots.specs.Slots.{number_from}
 use Rattle.tables.specs.Tables.{table_fits}
 use Rattle.table_rules.specs.Rules.{Rule, rules_in}
 use Rattle.table_rules.specs.Numbers.{written}

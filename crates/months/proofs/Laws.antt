@@ -1,33 +1,28 @@
 -- Laws that the code of months goes by.
 use Prim.Native.Nat.{ℕ}
-use mathlib.Core.Bool.{Bool, true, false, ◌||◌, not}
+use mathlib.Core.Bool.{Bool, true, false, ◌||◌}
 use mathlib.Core.List.{List, [], ◌∷◌}
 use mathlib.Core.Path.{◌≡◌, refl, sym, ap, ◌∙◌}
-use denote.Enum.Declared.{tag_of}
-use types.Run.{OneOf, miss}
 use lib.Dec.{eqb}
-use Rattle.names.specs.Tests.{if◌then◌else◌}
 use Rattle.records.specs.declared.Item.{Item}
+use Rattle.records.specs.declared.MonthSpan.{MonthSpan}
+use Rattle.records.specs.declared.DateSpan.{DateSpan}
 use Rattle.records.specs.declared.Item.TheVariants.{Years, Months, Dates, Weeks, Weekdays, Holidays, Times}
-use Rattle.records.specs.contracts.Item as item
 use Rattle.touched.specs.Kinds.{kind_of, of_kind}
-use Rattle.months.specs.Months.{item_can, any_can, list_can, rule_can}
+use Rattle.months.specs.Months.{item_can, any_can, rule_can}
 use Rattle.months.specs.Seen.{none, with_item, with_items, ended}
 use Rattle.months.specs.declared.Seen.{Seen}
 
--- the tags of items other than month_day_lem items, in the order of the declarations
-abbrev others : List ℕ
-others = 0 ∷ 3 ∷ 4 ∷ 5 ∷ 6 ∷ []
-
-pub not_asked : (a : Item) (m : ℕ) → OneOf others (tag_of item.the_type a) → false ≡ item_can a m
+-- items other than those of months and dates are not asked
+pub not_asked : (a : Item) (m : ℕ) → ((r : MonthSpan) → a ≡ Months r → ⊥) → ((r : DateSpan) → a ≡ Dates r → ⊥) → false ≡ item_can a m
 unfolding item_can
-not_asked (Years r) m k = refl
-not_asked (Months r) m k = absurd (miss others 1 tt k)
-not_asked (Dates r) m k = absurd (miss others 2 tt k)
-not_asked (Weeks r) m k = refl
-not_asked (Weekdays r) m k = refl
-not_asked (Holidays r) m k = refl
-not_asked (Times r) m k = refl
+not_asked (Years r) m p q = refl
+not_asked (Months r) m p q = absurd (p r refl)
+not_asked (Dates r) m p q = absurd (q r refl)
+not_asked (Weeks r) m p q = refl
+not_asked (Weekdays r) m p q = refl
+not_asked (Holidays r) m p q = refl
+not_asked (Times r) m p q = refl
 
 -- ---- item by item
 
@@ -36,7 +31,7 @@ or_assoc true b c = refl
 or_assoc false b c = refl
 
 module _ (m : ℕ) where
-  -- after a month_day_lem item: one of them can
+  -- after a month-day item: one of them can
   after_first : (l : List Item) (c : Bool) → ended (with_items m (record { listed = true; can = c }) l) ≡ (c || any_can (of_kind 2 l) m)
   unfolding with_items with_item of_kind any_can
   after_first [] c = refl

@@ -8,17 +8,16 @@ use lib.Dec.{eqb}
 use lib.ListN.{length}
 use mathlib.Core.Bool.{Bool, true, false, ◌&&◌, not}
 use mathlib.Core.List.{List, [], ◌∷◌}
-use mathlib.Core.Option.{Option, none, some}
+use mathlib.Core.Option.{none, some}
 use mathlib.Core.Path.{◌≡◌, refl, sym, ap, ◌∙◌}
 use lib.IntN.{ℤ}
-use Rattle.names.specs.Tests.{if◌then◌else◌}
 use Rattle.lent_slots.specs.Tables.{Tables}
 use Rattle.records.specs.declared.Item.{Item}
 use Rattle.records.specs.Told.{candidate}
 use Rattle.tables.specs.Tables.{is_head, cut, rules_fit, records_fit, table_fits}
 use Rattle.lent_slots.specs.Slots.{slots, record_at, records_from, records_of, is_whole}
 use Rattle.lent_slots.proofs.SlotLaws.{slot_next, slot_end}
-use Rattle.table_rules.specs.Rules.{Rule, rules_from, rules_in, rule_at, items_up, rules_up, rule_of, NextHead}
+use Rattle.table_rules.specs.Rules.{Rule, rules_from, rules_in, rule_at, items_up, rules_up, rule_of}
 
 -- the rules of a table are those from its first slot on
 pub rules_all : (t : Tables) → rules_up t 0 ≡ rules_in t

@@ -3,7 +3,6 @@ use mathlib.Core.List.{List, [], ◌∷◌, ◌++◌}
 use mathlib.Core.Bool.{Bool, true, false, ◌&&◌}
 use mathlib.Core.Path.{◌≡◌, refl}
 use lib.IntN.{ℤ, pos, negsuc}
-use Rattle.names.specs.Tests.{if◌then◌else◌}
 use Rattle.records.specs.Words.{record16}
 use Rattle.records.specs.Ranges.{between, year, nth}
 use Rattle.records.specs.Fits.{passes, unused, date_fits, time_fits, head_fits, item_fits}

@@ -2,15 +2,15 @@
 use Prim.Native.Nat.{ℕ, zero, suc}
 use native.Mathlib.Omega.{arith}
 use mathlib.Core.List.{List, [], ◌∷◌}
-use mathlib.Core.Bool.{Bool, true, false, ◌&&◌, not, true≢false}
+use mathlib.Core.Bool.{Bool, true, false, ◌&&◌, not}
 use mathlib.Core.Path.{◌≡◌, refl, sym, ap, ◌∙◌}
 use borrow.Author.Tests.{eq-eqb, ne_eqb, eqb-true, eqb-false}
 use lib.Dec.{eqb}
-use lib.IntN.{ℤ, pos}
+use lib.IntN.{ℤ}
 use lib.ListN.{length}
 use Rattle.names.specs.Tests.{if◌then◌else◌}
-use Rattle.records.specs.Ranges.{between, exactly}
-use Rattle.records.specs.Fits.{word_at, is_kind, head_fits, item_fits}
+use Rattle.records.specs.Ranges.{between}
+use Rattle.records.specs.Fits.{word_at, head_fits, item_fits}
 use Rattle.tables.specs.Tables.{Cut, is_head, cut, items_of, all_fit, rule_fits, rules_fit, records_fit, goes_on}
 use Rattle.records.proofs.WordLaws.{exactly_is}
 

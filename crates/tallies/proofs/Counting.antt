@@ -1,23 +1,23 @@
 -- The counts of a table's records, record by record.
-use Prim.Native.Nat.{ℕ, zero, suc, ◌+◌, ◌-◌, ◌*◌, ◌/◌, ◌%◌, ◌≤◌, ◌<◌}
+use Prim.Native.Nat.{ℕ, zero, suc, ◌+◌, ◌-◌, ◌/◌, ◌≤◌, ◌<◌}
 use native.Mathlib.Nat.{div-add-mod'}
 use native.Mathlib.Omega.{arith}
-use mathlib.Core.List.{List, [], ◌∷◌, ◌++◌}
+use mathlib.Core.List.{List, [], ◌∷◌}
 use mathlib.Core.Bool.{Bool, true, false, true≢false}
 use mathlib.Core.Path.{◌≡◌, refl, sym, ap, ◌∙◌}
 use borrow.Author.Tests.{le-leb}
-use lib.IntN.{ℤ, pos, nat_abs}
-use lib.ListN.{length, get_or, set, replicate, length-set}
+use lib.IntN.{ℤ, pos}
+use lib.ListN.{length, get_or, set, replicate}
 use Rattle.names.specs.Tests.{if◌then◌else◌}
 use Rattle.lent_slots.specs.Tables.{Tables}
 use Rattle.records.specs.Ranges.{between, from, exactly}
 use Rattle.records.specs.Fits.{word_at, is_kind}
-use Rattle.records.specs.Told.{up_to, byte_at}
-use Rattle.lent_slots.specs.Slots.{is_words, slots, record_at, records_from, records_of}
+use Rattle.records.specs.Told.{byte_at}
+use Rattle.lent_slots.specs.Slots.{is_words, slots, record_at, records_from}
 use Rattle.records.proofs.WordLaws.{from_is, exactly_is, number_at_lem}
 use Rattle.lent_slots.proofs.SlotLaws.{slot_next, slot_end}
-use Rattle.tallies.specs.Sums.{plus, most, roomy, AllUpTo}
-use Rattle.tallies.specs.Counts.{flagged_in, marks_of, one, record_counts, total, own}
+use Rattle.tallies.specs.Sums.{plus, AllUpTo}
+use Rattle.tallies.specs.Counts.{flagged_in, marks_of, one, record_counts, total}
 use Rattle.tallies.proofs.Adds.{plus_length, plus_group, plus_fresh, plus_set, one_plus}
 
 -- ---- a record

@@ -2,16 +2,16 @@
 use Prim.Native.Nat.{ℕ, ◌+◌, ◌≤◌, ◌<◌}
 use native.Mathlib.Nat.{add-zero}
 use native.Mathlib.Omega.{arith}
-use mathlib.Core.List.{List, [], ◌∷◌, ◌++◌}
+use mathlib.Core.List.{List, ◌++◌}
 use mathlib.Core.Bool.{Bool, true, false, true≢false}
 use mathlib.Core.Path.{◌≡◌, refl, sym, ap, ◌∙◌}
-use lib.ListN.{length, get_or, take, set, replicate, length-set, length-append}
+use lib.ListN.{length, get_or, take, set, replicate, length-set}
 use lib.Seq.{take_all, get_or-set_same}
 use native.Mathlib.Numerals.{add-one}
 use Rattle.lent_slots.proofs.Stores.{taken_more}
 use Rattle.tallies.specs.Sums.{plus, most, all_within, Sums}
 use Rattle.tallies.specs.declared.sums.Sum.{Sum}
-use Rattle.tallies.proofs.Adds.{plus_length, plus_at, plus_group, plus_swap, plus_fresh, plus_join, plus_set, one_plus, set_join, within_part, within_more, within_not, within_take, within_set, place_length, place_at, place_take}
+use Rattle.tallies.proofs.Adds.{plus_length, plus_at, plus_group, plus_swap, plus_fresh, plus_join, one_plus, set_join, within_part, within_more, within_not, within_take, within_set, place_length, place_at, place_take}
 
 -- ---- from a place on
 

@@ -8,10 +8,9 @@ use mathlib.Core.Bool.{Bool, true, false, ◌&&◌}
 use mathlib.Core.List.{List, [], ◌∷◌, map}
 use mathlib.Core.Option.{Option, none, some}
 use mathlib.Core.Path.{◌≡◌, refl, sym, ap, ◌∙◌}
-use lib.Dec.{eqb, leb}
+use lib.Dec.{eqb}
 use lib.ListN.{length}
 use lib.Seq.{sets}
-use Rattle.names.specs.Tests.{if◌then◌else◌}
 use Rattle.lent_slots.specs.Bytes.{little_endian}
 use Rattle.lent_slots.specs.Tables.{Tables}
 use Rattle.tables.specs.Tables.{table_fits}

@@ -16,7 +16,6 @@ use mir.Val.{to_z, of_z}
 use Rattle.records.proofs.Laws.{half_fits}
 use Rattle.records.specs.declared.Day.{Day}
 use Rattle.records.specs.declared.Day.TheVariants.{Fixed, Weekday, Easter}
-use Rattle.records.specs.contracts.Day as day
 use Rattle.almanac.specs.declared.OnDay.{OnDay}
 use Rattle.touched.specs.Touches.{best, worst}
 use Rattle.touched.specs.Selectors.{is_zero, ends_touch}
@@ -42,15 +41,15 @@ not_no Undecided k = refl
 not_no Yes k = refl
 
 -- ends that are not fixed
-pub not_fixed : (y : ℕ) (a : Day) (z : ℕ) (b : Day) (d : OnDay) → OneOf last_two (tag_of day.the_type a) → ends_touch y a z b d ≡ Undecided
+pub not_fixed : (y : ℕ) (a : Day) (z : ℕ) (b : Day) (d : OnDay) → ((m f : ℕ) → a ≡ Fixed m f → ⊥) → ends_touch y a z b d ≡ Undecided
 unfolding ends_touch
-not_fixed y (Fixed m f) z b d k = absurd (miss last_two 0 tt k)
+not_fixed y (Fixed m f) z b d k = absurd (k m f refl)
 not_fixed y (Weekday m w n) z b d k = refl
 not_fixed y Easter z b d k = refl
 
-pub not_fixed_last : (y m f z : ℕ) (b : Day) (d : OnDay) → OneOf last_two (tag_of day.the_type b) → ends_touch y (Fixed m f) z b d ≡ Undecided
+pub not_fixed_last : (y m f z : ℕ) (b : Day) (d : OnDay) → ((n l : ℕ) → b ≡ Fixed n l → ⊥) → ends_touch y (Fixed m f) z b d ≡ Undecided
 unfolding ends_touch
-not_fixed_last y m f z (Fixed n l) d k = absurd (miss last_two 0 tt k)
+not_fixed_last y m f z (Fixed n l) d k = absurd (k n l refl)
 not_fixed_last y m f z (Weekday n w i) d k = refl
 not_fixed_last y m f z Easter d k = refl
 
