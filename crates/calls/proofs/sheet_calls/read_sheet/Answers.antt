@@ -1,0 +1,5 @@
+use borrow.Author.Rules.{rules}
+use Rattle.calls.proofs.sheet_calls.read_sheet.Goals as goal
+
+pub returns : goal.returns
+returns c = c.sheet_words.ensures

@@ -1,0 +1,5 @@
+use borrow.Author.Rules.{rules}
+use Rattle.calls.proofs.sheet_calls.read_sheet_bytes.Goals as goal
+
+pub returns : goal.returns
+returns c = c.sheet_bytes.ensures
