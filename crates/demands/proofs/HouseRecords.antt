@@ -169,7 +169,7 @@ module _ (rs : List (List ℤ)) (headed : (e : ℤ) → StartAfter e rs) where
   rising_item : (a : Placed) → View a → (l : List Placed) → Spanned Form a → Each (Spanned Form) l → Spanned (λ x. Each (Spanned (After (minutes x.end))) l) a →
       IsSpan (item_record a) → StartAfter (word 4 (item_record a)) (map item_record l ++ rs)
   unfolding item_record words_of
-  rising_item _ (span x p) l f g h i = rw (end_word x.start x.end x.repeats x.open_end x.point p f.start f.end) (starts_to (minutes x.end) l rs g h (headed _))
+  rising_item _ (span x p) l f g h i = rw (end_word x.start x.end x.repeats x.open_end x.point p f.start f.end) (starts_to (minutes x.end) l rs g h (headed (pos (minutes x.end))))
   rising_item _ (other k g) l f o h i = absurd (k i)
 
   rising_to : (l : List Placed) → Each (Spanned Form) l → profile.Rising l → Rising rs → Rising (map item_record l ++ rs)
