@@ -5,8 +5,7 @@ ghost use Rattle.c_calls.specs.Tallies.{add_call, join_call};
 use tallies::{Answer, join_bytes, take_in_bytes};
 
 // A tally takes in an answer and its records: the number is returned.
-#[unsafe(no_mangle)]
-pub extern "C" fn lorukinde_tally_add(
+pub fn lorukinde_tally_add(
     tally: &mut [u8],
     number: u32,
     place: u32,
@@ -26,8 +25,7 @@ pub extern "C" fn lorukinde_tally_add(
 }
 
 // Another tally is added to a tally: the number is returned.
-#[unsafe(no_mangle)]
-pub extern "C" fn lorukinde_tally_join(tally: &mut [u8], other: &[u8]) -> u32
+pub fn lorukinde_tally_join(tally: &mut [u8], other: &[u8]) -> u32
     ensures { (result, tally.new) ≡ join_call tally.old other.now }
 {
     join_bytes(tally, other)

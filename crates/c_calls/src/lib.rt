@@ -57,8 +57,7 @@ fn part_numbers(
 }
 
 // Reads a sheet: the number is returned, place, records and warnings are stored.
-#[unsafe(no_mangle)]
-pub extern "C" fn lorukinde_read_sheet(
+pub fn lorukinde_read_sheet(
     sheet: &[u8],
     table: &mut [u8],
     place: &mut u32,
@@ -72,8 +71,7 @@ pub extern "C" fn lorukinde_read_sheet(
 }
 
 // Reads a sheet in an edition, named by its number.
-#[unsafe(no_mangle)]
-pub extern "C" fn lorukinde_read_sheet_in(
+pub fn lorukinde_read_sheet_in(
     edition: u32,
     sheet: &[u8],
     table: &mut [u8],
@@ -88,8 +86,7 @@ pub extern "C" fn lorukinde_read_sheet_in(
 }
 
 // Reads a house sheet.
-#[unsafe(no_mangle)]
-pub extern "C" fn lorukinde_read_house_sheet(
+pub fn lorukinde_read_house_sheet(
     sheet: &[u8],
     table: &mut [u8],
     place: &mut u32,
@@ -103,8 +100,7 @@ pub extern "C" fn lorukinde_read_house_sheet(
 }
 
 // Reads the part that begins at a place: also the next part's place is stored, and 1 if this was the last, else 0.
-#[unsafe(no_mangle)]
-pub extern "C" fn lorukinde_read_part(
+pub fn lorukinde_read_part(
     sheet: &[u8],
     begin: usize,
     table: &mut [u8],
@@ -122,8 +118,7 @@ pub extern "C" fn lorukinde_read_part(
 }
 
 // Reads the part that begins at a place in an edition, named by its number.
-#[unsafe(no_mangle)]
-pub extern "C" fn lorukinde_read_part_in(
+pub fn lorukinde_read_part_in(
     edition: u32,
     sheet: &[u8],
     begin: usize,
@@ -142,8 +137,7 @@ pub extern "C" fn lorukinde_read_part_in(
 }
 
 // Reads the part of a house sheet that begins at a place.
-#[unsafe(no_mangle)]
-pub extern "C" fn lorukinde_read_house_part(
+pub fn lorukinde_read_house_part(
     sheet: &[u8],
     begin: usize,
     table: &mut [u8],
@@ -161,8 +155,7 @@ pub extern "C" fn lorukinde_read_house_part(
 }
 
 // The note shown for a rule: 1 where it is a part of the sheet, 0 of the caller's standing note; from where and to where is stored.
-#[unsafe(no_mangle)]
-pub extern "C" fn lorukinde_note(
+pub fn lorukinde_note(
     sheet_len: usize,
     note_len: usize,
     start: i32,
@@ -179,8 +172,7 @@ pub extern "C" fn lorukinde_note(
 }
 
 // Reads a feed: the number is returned, lines and records are stored.
-#[unsafe(no_mangle)]
-pub extern "C" fn lorukinde_read_feed(
+pub fn lorukinde_read_feed(
     feed: &[u8],
     answers: &mut [u8],
     table: &mut [u8],

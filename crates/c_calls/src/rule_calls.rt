@@ -6,8 +6,7 @@ use months::{renew_months, rule_months};
 use touched::rule_days;
 
 // Runs a rule over recorded days: the number is returned, an answer for each day is written.
-#[unsafe(no_mangle)]
-pub extern "C" fn lorukinde_rule_days(
+pub fn lorukinde_rule_days(
     table: &[u8],
     rule: usize,
     days: &[u8],
@@ -20,8 +19,7 @@ pub extern "C" fn lorukinde_rule_days(
 }
 
 // Builds the list of entries of a table's rules: the number is returned, an entry for each rule is written.
-#[unsafe(no_mangle)]
-pub extern "C" fn lorukinde_rule_months(table: &[u8], entries: &mut [u8]) -> u32
+pub fn lorukinde_rule_months(table: &[u8], entries: &mut [u8]) -> u32
     ensures { (result, entries.new) ≡ calls.months_call table.now entries.old }
 {
     let none = [0i32; 0];
@@ -29,8 +27,7 @@ pub extern "C" fn lorukinde_rule_months(table: &[u8], entries: &mut [u8]) -> u32
 }
 
 // Renews a list of entries after a part of its sheet was exchanged: the number is returned.
-#[unsafe(no_mangle)]
-pub extern "C" fn lorukinde_renew_months(
+pub fn lorukinde_renew_months(
     entries: &mut [u8],
     rules: usize,
     first: usize,

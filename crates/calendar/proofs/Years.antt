@@ -1,4 +1,5 @@
 -- What the calendar says of years.
+use Rattle.std.specs.Prelude.{if◌then◌else◌}
 use Prim.Native.Nat.{◌%◌, ◌/◌}
 use mathlib.Core.Bool.{Bool, true, false, not, ◌&&◌, ◌||◌, true≢false}
 use mathlib.Core.Logic.{◌⊎◌, inl, inr, ⊎_elim}
@@ -6,7 +7,6 @@ use mathlib.Core.Path.{◌≡◌, refl, sym}
 use native.Mathlib.Omega.{arith}
 use borrow.Author.Tests.{eq-eqb, ne_eqb, eqb-true, eqb-false}
 use lib.Dec.{eqb}
-use Rattle.names.specs.Tests.{if◌then◌else◌}
 use Rattle.calendar.specs.Calendar.{leap, last_of_february, last_of, has_thirty}
 use Rattle.calendar.specs.Years.{Multiple, LeapYears, days_of, YearDays}
 

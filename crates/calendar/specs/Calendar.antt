@@ -1,6 +1,6 @@
 -- The Gregorian calendar: leap years, the last day of a month, and which days there are. Year 0 stands for no year (docs/RULES.md, 4).
-use Rattle.std.specs.Prelude.{ℕ, ◌%◌, Bool, not, ◌&&◌, ◌||◌, eqb}
-use Rattle.names.specs.Tests.{if◌then◌else◌, within}
+use Rattle.std.specs.Prelude.{ℕ, ◌%◌, Bool, not, ◌&&◌, ◌||◌, eqb, if◌then◌else◌}
+use Rattle.names.specs.Tests.{within}
 
 -- n is divisible by k
 abbrev pub divisible : ℕ → ℕ → Bool

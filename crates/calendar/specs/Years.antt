@@ -1,6 +1,5 @@
 -- What is proved of the calendar besides, in other words than its definition: which years are leap years, and how many days a year has (docs/RULES.md, 4).
-use Rattle.std.specs.Prelude.{ℕ, ◌+◌, ◌*◌, ◌≤◌, true, ◌⊎◌, ◌↔◌, ◌≡◌}
-use Rattle.names.specs.Tests.{if◌then◌else◌}
+use Rattle.std.specs.Prelude.{ℕ, ◌+◌, ◌*◌, ◌≤◌, true, ◌⊎◌, ◌↔◌, ◌≡◌, if◌then◌else◌}
 use Rattle.calendar.specs.Calendar.{leap, last_of}
 
 -- n is a multiple of k

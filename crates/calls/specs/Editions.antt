@@ -1,6 +1,5 @@
 -- The caller names an edition of the rules by its number (docs/RULES.md, 8).
-use Rattle.std.specs.Prelude.{ℕ, List, eqb, ℤ}
-use Rattle.names.specs.Tests.{if◌then◌else◌}
+use Rattle.std.specs.Prelude.{ℕ, List, eqb, ℤ, if◌then◌else◌}
 use Rattle.names.specs.Refusals.{unknown_edition}
 use Rattle.names.specs.declared.Manner.{Manner}
 use Rattle.names.specs.declared.Manner.TheVariants.{First, Second}

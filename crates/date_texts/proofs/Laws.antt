@@ -1,4 +1,5 @@
 -- What good dates have: names in range.
+use Rattle.std.specs.Prelude.{if◌then◌else◌}
 use Prim.Native.Nat.{ℕ, ◌≤◌, ◌<◌, ◌^◌}
 use native.Mathlib.Omega.{arith}
 use mathlib.Core.Bool.{Bool, true, false, ◌&&◌, ◌||◌, true≢false}
@@ -9,7 +10,7 @@ use lib.IntN.{ℤ, pos, negsuc, nat_abs}
 use lib.Signed.{mag}
 use mir.Syntax.{w16}
 use mir.Val.{of_z, to_z}
-use Rattle.names.specs.Tests.{if◌then◌else◌, within}
+use Rattle.names.specs.Tests.{within}
 use Rattle.names.specs.Names.{weekday, month}
 use Rattle.records.specs.declared.MonthSpan.{MonthSpan}
 use Rattle.records.specs.declared.Day.{Day}

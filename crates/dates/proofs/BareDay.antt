@@ -1,11 +1,11 @@
 -- A bare end day is the first day of the calendar with that number that is not before the start.
+use Rattle.std.specs.Prelude.{if◌then◌else◌}
 use Prim.Native.Nat.{ℕ, suc, ◌+◌, ◌*◌, ◌≤◌, ◌<◌}
 use mathlib.Core.Bool.{Bool, true, false, true≢false}
 use mathlib.Core.Path.{◌≡◌, refl, sym, ◌∙◌}
 use native.Mathlib.Omega.{arith}
 use native.Mathlib.Decide.{dec_lt}
 use borrow.Author.Tests.{le-leb, lt-leb, lt-ltb, le-ltb, ne_eqb}
-use Rattle.names.specs.Tests.{if◌then◌else◌}
 use Rattle.names.proofs.Laws.{within_range}
 use Rattle.calendar.specs.Calendar.{leap, is_day, last_of}
 use Rattle.calendar.proofs.Months as calendar

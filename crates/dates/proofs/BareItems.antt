@@ -1,11 +1,12 @@
 -- A bare end day that is read ends its date item on the first day of the calendar with that number, not before the start.
+use Rattle.std.specs.Prelude.{if◌then◌else◌}
 use Prim.Native.Nat.{ℕ, ◌≤◌}
 use mathlib.Core.Bool.{Bool, true, false, not, and-eq-true_iff}
 use mathlib.Core.List.{List}
 use mathlib.Core.Path.{◌≡◌, refl, ap, sym}
 use native.Mathlib.Omega.{arith}
 use lib.Dec.{eqb}
-use Rattle.names.specs.Tests.{if◌then◌else◌, within}
+use Rattle.names.specs.Tests.{within}
 use Rattle.names.specs.Read.{Read, got, nothing, pure, here}
 use Rattle.names.specs.Texts.{sign, blank}
 use Rattle.names.specs.Numbers.{short}

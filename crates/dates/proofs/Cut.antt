@@ -1,4 +1,5 @@
 -- Years, weeks and dates depend on nothing before their place and nothing from a `;` outside quotes on: the lemmas put together as the definitions are.
+use Rattle.std.specs.Prelude.{if◌then◌else◌}
 use Prim.Native.Nat.{ℕ, ◌+◌}
 use mathlib.Core.List.{List}
 use mathlib.Core.Bool.{Bool, true, false, not}
@@ -6,7 +7,6 @@ use mathlib.Core.Path.{refl}
 use native.Mathlib.Omega.{arith}
 use lib.Dec.{eqb, ltb}
 use lib.ListN.{length}
-use Rattle.names.specs.Tests.{if◌then◌else◌}
 use Rattle.names.specs.Read.{Reader, ◌>>=◌}
 use Rattle.names.specs.Names.{Word, weekday, month, easter}
 use Rattle.names.specs.Spellings.{spelled}

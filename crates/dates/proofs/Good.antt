@@ -1,10 +1,10 @@
 -- What a good date item says of its parts.
+use Rattle.std.specs.Prelude.{if◌then◌else◌}
 use Prim.Native.Nat.{ℕ, suc, ◌≤◌}
 use mathlib.Core.Bool.{Bool, true, false, ◌&&◌, and-eq-true_iff}
 use mathlib.Core.Path.{◌≡◌}
 use native.Mathlib.Omega.{arith}
 use lib.Dec.{leb, ltb, eqb}
-use Rattle.names.specs.Tests.{if◌then◌else◌}
 use Rattle.names.proofs.Laws.{within_range}
 use Rattle.days.specs.Offsets.{good_days}
 use Rattle.dates.specs.BareEnds.{next_year, year_month, next_month, month_from}

@@ -1,6 +1,5 @@
 -- The rule of the bare end day: the first day of the calendar with that number, not before the start. And the last day, for `+` (docs/RULES.md, 4).
-use Rattle.std.specs.Prelude.{ℕ, suc, leb, ltb, eqb}
-use Rattle.names.specs.Tests.{if◌then◌else◌}
+use Rattle.std.specs.Prelude.{ℕ, suc, leb, ltb, eqb, if◌then◌else◌}
 use Rattle.calendar.specs.Calendar.{is_day}
 use Rattle.records.specs.declared.Day.{Day}
 use Rattle.records.specs.declared.Day.TheVariants.{Fixed}

@@ -1,6 +1,5 @@
 -- Date: [`YYYY` blank] then `easter`, `Mon` blank `D`, or `Mon` blank `Wd[n]` or `Wd[-n]` (docs/RULES.md, 2).
-use Rattle.std.specs.Prelude.{ℕ, Bool, true, false, eqb, ℤ}
-use Rattle.names.specs.Tests.{if◌then◌else◌}
+use Rattle.std.specs.Prelude.{ℕ, Bool, true, false, eqb, ℤ, if◌then◌else◌}
 use Rattle.names.specs.Read.{Reader, nothing, pure, ◌>>=◌, ◌>>◌, ◌or◌, maybe}
 use Rattle.names.specs.Texts.{sign, blank}
 use Rattle.names.specs.Numbers.{year, short, ordinal}

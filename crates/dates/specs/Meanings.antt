@@ -1,7 +1,7 @@
 -- What dates and months mean (docs/RULES.md, 4).
-use Rattle.std.specs.Prelude.{ℕ, Bool, true, false, ◌&&◌, ◌||◌, not, ℤ, pos}
+use Rattle.std.specs.Prelude.{ℕ, Bool, true, false, ◌&&◌, ◌||◌, not, ℤ, pos, if◌then◌else◌}
 use Rattle.std.specs.Int.Signed.{le_z}
-use Rattle.names.specs.Tests.{if◌then◌else◌, within}
+use Rattle.names.specs.Tests.{within}
 use Rattle.names.specs.Refusals.{easter_day, range}
 use Rattle.records.specs.Items.{signed}
 use Rattle.records.specs.declared.Day.{Day}

@@ -1,6 +1,6 @@
 -- Years and weeks: first, last and step (docs/RULES.md, 4).
-use Rattle.std.specs.Prelude.{ℕ, ◌-◌, Bool, ◌&&◌, ltb}
-use Rattle.names.specs.Tests.{if◌then◌else◌, within}
+use Rattle.std.specs.Prelude.{ℕ, ◌-◌, Bool, ◌&&◌, ltb, if◌then◌else◌}
+use Rattle.names.specs.Tests.{within}
 use Rattle.names.specs.Read.{Reader, pure, ◌>>=◌, ◌>>◌, maybe}
 use Rattle.names.specs.Texts.{sign}
 use Rattle.names.specs.Numbers.{count}

@@ -1,6 +1,6 @@
 -- Year: `YYYY`, `YYYY+`, `YYYY-YYYY`, `YYYY-YYYY/N` (docs/RULES.md, 2).
-use Rattle.std.specs.Prelude.{ℕ, Bool, not, ltb}
-use Rattle.names.specs.Tests.{if◌then◌else◌, within}
+use Rattle.std.specs.Prelude.{ℕ, Bool, not, ltb, if◌then◌else◌}
+use Rattle.names.specs.Tests.{within}
 use Rattle.names.specs.Read.{Reader, pure, ◌>>=◌, ◌>>◌, ◌or◌}
 use Rattle.names.specs.Texts.{sign}
 use Rattle.names.specs.Numbers.{year}

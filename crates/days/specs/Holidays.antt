@@ -1,6 +1,5 @@
 -- Holiday: `PH` or `SH` with optional day offset (docs/RULES.md, 2).
-use Rattle.std.specs.Prelude.{ℕ, not}
-use Rattle.names.specs.Tests.{if◌then◌else◌}
+use Rattle.std.specs.Prelude.{ℕ, not, if◌then◌else◌}
 use Rattle.names.specs.Read.{Reader, pure, ◌>>=◌}
 use Rattle.names.specs.Names.{name, holiday}
 use Rattle.names.specs.Refusals.{range}

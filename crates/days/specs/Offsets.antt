@@ -1,7 +1,6 @@
 -- Offset: `+Wd` or `-Wd`, or a day offset, or both in that order. Day offset: blank, sign, `N`, blank, `day` or `days` (docs/RULES.md, 2).
-use Rattle.std.specs.Prelude.{ℕ, Bool, true, false, ℤ}
+use Rattle.std.specs.Prelude.{ℕ, Bool, true, false, ℤ, if◌then◌else◌}
 use Rattle.std.specs.Int.Signed.{lt_z}
-use Rattle.names.specs.Tests.{if◌then◌else◌}
 use Rattle.names.specs.Read.{Reader, pure, ◌>>=◌, ◌>>◌, ◌or◌, maybe}
 use Rattle.names.specs.Texts.{sign, blank}
 use Rattle.names.specs.Numbers.{count}

@@ -1,6 +1,5 @@
 -- Weekday: `Wd`, `Wd-Wd`, or `Wd[entries]` with optional day offset. In the second edition `Wd` or `Wd-Wd`, each with optional `[entries]` and optional day offset (docs/RULES.md, 2).
-use Rattle.std.specs.Prelude.{ℕ, Bool, false, ◌&&◌, not, eqb, ℤ}
-use Rattle.names.specs.Tests.{if◌then◌else◌}
+use Rattle.std.specs.Prelude.{ℕ, Bool, false, ◌&&◌, not, eqb, ℤ, if◌then◌else◌}
 use Rattle.names.specs.Read.{Reader, pure, ◌>>=◌, ◌>>◌, ◌or◌, maybe}
 use Rattle.names.specs.Texts.{sign}
 use Rattle.names.specs.Names.{weekday}

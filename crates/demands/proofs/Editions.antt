@@ -1,4 +1,5 @@
 -- What the first edition accepts, the second accepts with the same records and warnings (specs/Editions.antt).
+use Rattle.std.specs.Prelude.{if◌then◌else◌}
 use Prim.Native.Nat.{ℕ}
 use mathlib.Core.Bool.{Bool, true, false, not}
 use mathlib.Core.List.{List, []}
@@ -8,7 +9,6 @@ use borrow.Author.Tests.{ne_eqb}
 use lib.Dec.{ltb}
 use lib.IntN.{ℤ}
 use lib.ListN.{length, take, get_or}
-use Rattle.names.specs.Tests.{if◌then◌else◌}
 use Rattle.names.specs.Read.{Read, got, none, refused}
 use Rattle.names.specs.declared.Manner.TheVariants.{First, Second}
 use Rattle.names.proofs.Local.{Near}

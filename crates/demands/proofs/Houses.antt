@@ -1,4 +1,5 @@
 -- A house reading accepts exactly what edition 1 accepts and what breaks no sentence of the profile, with the same records.
+use Rattle.std.specs.Prelude.{if◌then◌else◌}
 use Prim.Native.Nat.{ℕ, ◌/◌, ◌<◌}
 use mathlib.Core.Bool.{Bool, true, false, not}
 use mathlib.Core.List.{List}
@@ -7,7 +8,6 @@ use native.Mathlib.Omega.{arith}
 use lib.Dec.{ltb}
 use lib.IntN.{ℤ}
 use lib.ListN.{length, take}
-use Rattle.names.specs.Tests.{if◌then◌else◌}
 use Rattle.names.specs.Read.{Reader, got, none, refused}
 use Rattle.names.specs.declared.Manner.TheVariants.{First, House}
 use Rattle.rules.specs.Rules.{Rule}

@@ -1,4 +1,5 @@
 -- The rules of a text that are judged: an edition's are those that were read; a house sheet's are, or else their first break refuses.
+use Rattle.std.specs.Prelude.{if◌then◌else◌}
 use Prim.Native.Nat.{ℕ, ◌+◌, ◌<◌}
 use mathlib.Core.Bool.{Bool, true, false}
 use mathlib.Core.List.{List, [], ◌∷◌, ◌++◌, map}
@@ -7,7 +8,6 @@ use mathlib.Core.Path.{◌≡◌, refl, sym, ap, ◌∙◌}
 use native.Mathlib.Omega.{arith}
 use lib.Dec.{eqb}
 use lib.ListN.{length}
-use Rattle.names.specs.Tests.{if◌then◌else◌}
 use Rattle.names.specs.Read.{Read, got, none, refused, follow, nothing}
 use Rattle.names.specs.Refusals.{house_form, house_order}
 use Rattle.names.specs.declared.Manner.{Manner}

@@ -1,4 +1,5 @@
 -- Bad input gets one of the refusal numbers of the manner it is read in.
+use Rattle.std.specs.Prelude.{if◌then◌else◌}
 use Prim.Native.Nat.{ℕ, suc, ◌/◌, ◌≤◌}
 use mathlib.Core.List.{List, []}
 use mathlib.Core.Bool.{Bool, true, false, not}
@@ -9,7 +10,6 @@ use lib.Dec.{ltb}
 use lib.IntN.{ℤ}
 use lib.ListN.{length, take}
 use Rattle.names.specs.declared.Manner.{Manner}
-use Rattle.names.specs.Tests.{if◌then◌else◌}
 use Rattle.names.proofs.Laws.{either}
 use Rattle.names.specs.Read.{got, none, refused}
 use Rattle.names.specs.Refusals.{too_long, no_part, point_in_time, house_form, house_order, greatest}

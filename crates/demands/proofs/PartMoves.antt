@@ -1,4 +1,5 @@
 -- A part of a text that stands after u is answered as it is in its text, with the places moved; two moves are one, and a move by 0 is none.
+use Rattle.std.specs.Prelude.{if◌then◌else◌}
 use Prim.Native.Nat.{ℕ, zero, suc, ◌+◌, ◌≤◌}
 use mathlib.Core.List.{List, [], ◌∷◌, ◌++◌, map}
 use mathlib.Core.Bool.{Bool, true, false}
@@ -11,7 +12,6 @@ use lib.ListN.{length, get_or, take, length-append}
 use lib.Seq.{set-get_or, take-append-add, drop-append-add}
 use borrow.Author.Tests.{le-ltb}
 use Rattle.names.specs.declared.Manner.{Manner}
-use Rattle.names.specs.Tests.{if◌then◌else◌}
 use Rattle.names.proofs.Local.{compare_add}
 use Rattle.parts.specs.Parts.{begins, part_end}
 use Rattle.sheet.specs.Sheets.{text_of}

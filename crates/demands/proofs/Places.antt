@@ -1,4 +1,5 @@
 -- The places of all parts of a text, part by part.
+use Rattle.std.specs.Prelude.{if◌then◌else◌}
 use Prim.Native.Nat.{ℕ, zero, suc, ◌+◌, ◌-◌, ◌≤◌, ◌<◌}
 use mathlib.Core.List.{List, [], ◌∷◌, ◌++◌, append_assoc, append-nil}
 use mathlib.Core.Bool.{true, false}
@@ -6,7 +7,6 @@ use mathlib.Core.Path.{◌≡◌, sym, ap, ◌∙◌}
 use native.Mathlib.Omega.{arith}
 use native.Mathlib.Nat.{add-zero, zero-add, suc-add, sub-zero}
 use lib.ListN.{length}
-use Rattle.names.specs.Tests.{if◌then◌else◌}
 use Rattle.parts.specs.Parts.{part_end, begins, beginnings, places}
 use Rattle.parts.proofs.Laws.{part_begin}
 use Rattle.parts.proofs.PartLaws.{begins_fits, begins_none, end_fits}

@@ -1,4 +1,5 @@
 -- The answer and the records of a text that stands after u are its own, with their places moved.
+use Rattle.std.specs.Prelude.{if◌then◌else◌}
 use Prim.Native.Nat.{ℕ, zero, suc, ◌+◌, ◌/◌}
 use mathlib.Core.List.{List, [], ◌∷◌, ◌++◌, map, map-append}
 use mathlib.Core.Bool.{Bool, true, false}
@@ -8,7 +9,6 @@ use lib.Dec.{ltb, eqb-suc-zero}
 use lib.IntN.{ℤ, pos}
 use lib.ListN.{length, set, length-map}
 use Rattle.names.specs.declared.Manner.{Manner}
-use Rattle.names.specs.Tests.{if◌then◌else◌}
 use Rattle.names.specs.Read.{got, none, refused}
 use Rattle.names.proofs.Local.{moved}
 use Rattle.records.specs.Words.{record16, words_of, placed_at, Placed, head_words, item_record}

@@ -1,4 +1,5 @@
 -- The parts of a sheet and the sheet: where the table holds everything, the sheet is accepted exactly when every part is, with their records in order.
+use Rattle.std.specs.Prelude.{if◌then◌else◌}
 use Prim.Native.Nat.{ℕ, zero, suc, ◌+◌, ◌≤◌, ◌<◌, ◌/◌}
 use mathlib.Core.List.{List, [], ◌∷◌, ◌++◌, append-nil, append_assoc}
 use mathlib.Core.Bool.{Bool, true, false}
@@ -12,7 +13,6 @@ use lib.ListN.{length, take, drop, length-append}
 use lib.Seq.{length-take-le, take_all}
 use borrow.Author.Tests.{le-ltb, lt-ltb}
 use Rattle.names.specs.declared.Manner.{Manner}
-use Rattle.names.specs.Tests.{if◌then◌else◌}
 use Rattle.names.specs.Read.{Read, got, none, refused}
 use Rattle.rules.specs.Rules.{Rule}
 use Rattle.house.specs.Breaks.{first_of, rules_break, judged_by}

@@ -1,4 +1,5 @@
 -- Two readings of one place, by the first edition and by the second: they find the same, or the first is lost.
+use Rattle.std.specs.Prelude.{if◌then◌else◌}
 use Prim.Native.Nat.{ℕ, suc, ◌≤◌}
 use mathlib.Core.Bool.{Bool, true, false, ◌&&◌, not}
 use mathlib.Core.List.{List}
@@ -9,7 +10,6 @@ use borrow.Author.Tests.{eqb-true}
 use lib.Dec.{eqb, ltb}
 use lib.IntN.{ℤ}
 use lib.ListN.{length, get_or}
-use Rattle.names.specs.Tests.{if◌then◌else◌}
 use Rattle.names.specs.Read.{Read, got, none, refused, Reader, follow, nothing, pure, when, one}
 use Rattle.names.specs.Chain.{skip}
 use Rattle.names.specs.Texts.{byte, blank, blanks}

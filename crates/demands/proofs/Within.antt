@@ -1,4 +1,5 @@
 -- Demand 3 within a line of a feed (specs/Within.antt).
+use Rattle.std.specs.Prelude.{if◌then◌else◌}
 use Prim.Native.Nat.{ℕ, zero, suc, ◌+◌, ◌*◌, ◌-◌, ◌≤◌, ◌<◌}
 use mathlib.Core.List.{List, [], ◌∷◌, ◌++◌, append-nil, append_assoc}
 use mathlib.Core.Bool.{Bool, true, false}
@@ -9,7 +10,6 @@ use lib.Dec.{eqb}
 use lib.ListN.{length, get_or, length-append, get_or-append}
 use lib.Seq.{get_or-append_seam, get_or-append-add}
 use borrow.Author.Tests.{ne_eqb}
-use Rattle.names.specs.Tests.{if◌then◌else◌}
 use Rattle.sheet.specs.Sheets.{refusal, sheet_of}
 use Rattle.names.specs.declared.Manner.TheVariants.{First}
 use Rattle.sheet.proofs.Readings.{sheet_held}

@@ -1,6 +1,5 @@
 -- A reading in a text that stands d bytes later: places move, and nothing else does. The 0 of acceptance, of no comment and of a last part's next stays.
-use Rattle.std.specs.Prelude.{ℕ, ◌+◌, List, map, Bool, false, ◌&&◌, not, eqb, ℤ, pos, negsuc, ◌+ℤ◌, get_or, set}
-use Rattle.names.specs.Tests.{if◌then◌else◌}
+use Rattle.std.specs.Prelude.{ℕ, ◌+◌, List, map, Bool, false, ◌&&◌, not, eqb, ℤ, pos, negsuc, ◌+ℤ◌, get_or, set, if◌then◌else◌}
 use Rattle.sheet.specs.Sheets.{answer_of}
 use Rattle.sheet.specs.PartReadings.{part_answer_of}
 use Rattle.sheet.specs.declared.Answer.{Answer}

@@ -1,7 +1,6 @@
 -- Demand 3, the parts of a sheet and the sheet: where the table holds everything, the sheet is accepted exactly when every part is, with their records in order
 -- and their warnings added.
-use Rattle.std.specs.Prelude.{ℕ, zero, suc, ◌+◌, ◌≤◌, ◌/◌, List, [], ◌∷◌, ◌++◌, ◌≡◌, ℤ, length}
-use Rattle.names.specs.Tests.{if◌then◌else◌}
+use Rattle.std.specs.Prelude.{ℕ, zero, suc, ◌+◌, ◌≤◌, ◌/◌, List, [], ◌∷◌, ◌++◌, ◌≡◌, ℤ, length, if◌then◌else◌}
 use Rattle.lent_slots.specs.Tables.{Layout, laid}
 use Rattle.sheet.specs.declared.Answer.{Answer}
 use Rattle.sheet.specs.declared.PartAnswer.{PartAnswer}

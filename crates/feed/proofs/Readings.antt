@@ -1,4 +1,5 @@
 -- The readings of a feed's lines: what is left of them while they are read, and the tables that hold them.
+use Rattle.std.specs.Prelude.{if◌then◌else◌}
 use Prim.Native.Nat.{ℕ, suc, ◌+◌, ◌*◌, ◌-◌, ◌/◌, ◌≤◌, ◌<◌}
 use mathlib.Core.List.{List, [], ◌∷◌, ◌++◌, append-nil}
 use mathlib.Core.Bool.{Bool, true, false}
@@ -12,7 +13,6 @@ use lib.Dec.{ltb}
 use lib.IntN.{ℤ}
 use lib.ListN.{length, take, drop, length-append}
 use lib.Seq.{drop-length}
-use Rattle.names.specs.Tests.{if◌then◌else◌}
 use Rattle.lent_slots.specs.Tables.{Layout, as_words, as_bytes, Tables, all_kept}
 use Rattle.lent_slots.proofs.Keeps.{all_append}
 use Rattle.sheet.specs.Sheets.{sheet_of, words_in}

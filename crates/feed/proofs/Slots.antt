@@ -1,4 +1,5 @@
 -- What is kept in the slots of a table: from a slot on, where the table has them, and where it has room for all.
+use Rattle.std.specs.Prelude.{if◌then◌else◌}
 use Prim.Native.Nat.{ℕ, suc, ◌+◌, ◌*◌, ◌/◌, ◌≤◌, ◌<◌}
 use mathlib.Core.List.{List, [], ◌∷◌, ◌++◌, append-nil}
 use mathlib.Core.Path.{◌≡◌, refl, sym, ap, ◌∙◌}
@@ -11,7 +12,6 @@ use lib.Dec.{ltb}
 use lib.IntN.{ℤ, pos}
 use lib.ListN.{length, take, drop, set, length-append, take-append-drop}
 use lib.Seq.{sets, length-take-le, take-length, drop-length}
-use Rattle.names.specs.Tests.{if◌then◌else◌}
 use Rattle.lent_slots.specs.Bytes.{little_endian, record_bytes}
 use Rattle.lent_slots.specs.Tables.{Layout, as_words, as_bytes, laid, kept, Tables, kept_in, all_kept}
 use Rattle.lent_slots.proofs.Keeps.{kept_fits, kept_none, length_kept}

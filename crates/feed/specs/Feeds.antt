@@ -1,6 +1,5 @@
 -- Reading a feed into two tables, one for four-number answers, one for records (docs/RULES.md, 7).
-use Rattle.std.specs.Prelude.{ℕ, ◌*◌, ◌-◌, ◌/◌, List, [], ◌∷◌, ◌++◌, map, ltb, ℤ, pos, length}
-use Rattle.names.specs.Tests.{if◌then◌else◌}
+use Rattle.std.specs.Prelude.{ℕ, ◌*◌, ◌-◌, ◌/◌, List, [], ◌∷◌, ◌++◌, map, ltb, ℤ, pos, length, if◌then◌else◌}
 use Rattle.lent_slots.specs.Bytes.{record_bytes}
 use Rattle.lent_slots.specs.Tables.{Layout, as_words, as_bytes, laid}
 use Rattle.sheet.specs.Sheets.{sheet_of, words_in}

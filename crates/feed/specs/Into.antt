@@ -1,6 +1,5 @@
 -- What is read into tables of words and of bytes: each of them has what has its slot there.
-use Rattle.std.specs.Prelude.{ℕ, suc, ◌+◌, ◌*◌, ◌/◌, ◌≤◌, List, [], ◌∷◌, ltb, eqb, ℤ, length, drop}
-use Rattle.names.specs.Tests.{if◌then◌else◌}
+use Rattle.std.specs.Prelude.{ℕ, suc, ◌+◌, ◌*◌, ◌/◌, ◌≤◌, List, [], ◌∷◌, ltb, eqb, ℤ, length, drop, if◌then◌else◌}
 use Rattle.lent_slots.specs.Tables.{Tables, Layout, kept, all_kept}
 use Rattle.records.specs.Warnings.{most_warnings}
 use Rattle.sheet.specs.declared.Answer.{Answer}

@@ -1,6 +1,5 @@
 -- The lines of a feed: many sheets, one a line, parted by byte 10 (docs/RULES.md, 7).
-use Rattle.std.specs.Prelude.{ℕ, List, [], ◌∷◌, eqb}
-use Rattle.names.specs.Tests.{if◌then◌else◌}
+use Rattle.std.specs.Prelude.{ℕ, List, [], ◌∷◌, eqb, if◌then◌else◌}
 
 -- a byte other than 10 stands in the first of the lines that the feed has from there on
 abbrev pub in_first : ℕ → List (List ℕ) → List (List ℕ)

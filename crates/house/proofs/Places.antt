@@ -1,9 +1,9 @@
 -- The first break has one of the house's two numbers, at the place of a rule or of an item.
+use Rattle.std.specs.Prelude.{if◌then◌else◌}
 use Prim.Native.Nat.{ℕ}
 use mathlib.Core.Bool.{Bool, true, false}
 use mathlib.Core.List.{List, [], ◌∷◌}
 use lib.Dec.{eqb}
-use Rattle.names.specs.Tests.{if◌then◌else◌}
 use Rattle.names.specs.Refusals.{house_form, house_order}
 use Rattle.names.specs.declared.Manner.{Manner}
 use Rattle.names.specs.declared.Manner.TheVariants.{First, Second, House}

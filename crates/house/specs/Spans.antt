@@ -1,6 +1,5 @@
 -- A span: its form, and its order after the earlier ones of its rule (docs/RULES.md, 9).
-use Rattle.std.specs.Prelude.{ℕ, Bool, true, false, ◌&&◌, not, ltb, leb}
-use Rattle.names.specs.Tests.{if◌then◌else◌}
+use Rattle.std.specs.Prelude.{ℕ, Bool, true, false, ◌&&◌, not, ltb, leb, if◌then◌else◌}
 use Rattle.names.specs.Refusals.{house_form, house_order}
 use Rattle.records.specs.declared.Time.{Time}
 use Rattle.records.specs.declared.Time.TheVariants.{Fixed, Dawn, Sunrise, Sunset, Dusk}

@@ -1,6 +1,5 @@
 -- What stands before an item of a rule after another, by the rules' own rows.
-use Rattle.std.specs.Prelude.{ℕ, Bool, ◌&&◌, eqb}
-use Rattle.names.specs.Tests.{if◌then◌else◌}
+use Rattle.std.specs.Prelude.{ℕ, Bool, ◌&&◌, eqb, if◌then◌else◌}
 use Rattle.records.specs.declared.Item.{Item}
 use Rattle.items.specs.declared.Kind.{Kind}
 use Rattle.rules.specs.Rows.{small, listed, following, is_wide}

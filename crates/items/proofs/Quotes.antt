@@ -1,4 +1,5 @@
 -- A broken quote is one in a text alone and in a longer one: before a `;` outside quotes a quote that opens has its closing quote.
+use Rattle.std.specs.Prelude.{if◌then◌else◌}
 use Prim.Native.Nat.{ℕ, zero, suc, ◌+◌, ◌≤◌, ◌<◌}
 use mathlib.Core.List.{List, [], ◌∷◌, ◌++◌, append-nil}
 use mathlib.Core.Bool.{Bool, true, false, ◌&&◌, ◌||◌, not, true≢false}
@@ -11,7 +12,6 @@ use borrow.Author.Tests.{ne_eqb, eqb-true}
 use lib.Dec.{eqb}
 use lib.ListN.{length, get_or, drop, get_or-append, get_or-eq_default, length-append, drop_of_length-le}
 use lib.Seq.{drop-cons, get_or-append-add, get_or_at, drop-append-le, drop-append-add}
-use Rattle.names.specs.Tests.{if◌then◌else◌}
 use Rattle.names.specs.Quotes.{inside_of}
 use Rattle.names.specs.Refusals.{no_shape, broken_quote}
 use Rattle.names.proofs.Local.{Number, Stop, Follows, stop_end, stop_at, Side, At}

@@ -1,10 +1,10 @@
 -- As what an item that begins with a name is wanted: of the kinds of a set, only those that begin so count.
+use Rattle.std.specs.Prelude.{if◌then◌else◌}
 use Prim.Native.Nat.{ℕ}
 use mathlib.Core.Bool.{Bool, true, false, ◌||◌}
 use mathlib.Core.List.{List, [], ◌∷◌}
 use mathlib.Core.Path.{◌≡◌, refl, ap, ◌∙◌}
 use borrow.Author.Tests.{ne_eqb}
-use Rattle.names.specs.Tests.{if◌then◌else◌}
 use Rattle.names.specs.Names.{weekday, month, event, easter, holiday, week}
 use Rattle.items.specs.Sets.{has_kind, picked, numbered, kinds_of, begins_with}
 use Rattle.items.specs.Seen.{wish_if, wished}

@@ -1,6 +1,5 @@
 -- What an answer of the code says, in the definitions' terms.
-use Rattle.std.specs.Prelude.{ℕ, List, [], ◌∷◌, Bool, ◌≡◌, eqb}
-use Rattle.names.specs.Tests.{if◌then◌else◌}
+use Rattle.std.specs.Prelude.{ℕ, List, [], ◌∷◌, Bool, ◌≡◌, eqb, if◌then◌else◌}
 use Rattle.names.specs.Read.{Read, got, none, refused, Reader, follow, nothing, pure, ◌>>=◌}
 use Rattle.names.specs.Texts.{blanks}
 use Rattle.names.specs.declared.Manner.{Manner}

@@ -1,4 +1,5 @@
 -- A record kept in its slot, and many: in slots apart their order does not matter, and where there is room for all they are written over the table.
+use Rattle.std.specs.Prelude.{if◌then◌else◌}
 use Prim.Native.Nat.{ℕ, suc, ◌+◌, ◌*◌, ◌≤◌, ◌<◌}
 use mathlib.Core.List.{List, [], ◌∷◌, ◌++◌}
 use mathlib.Core.Bool.{Bool, true, false}
@@ -10,7 +11,6 @@ use lib.Dec.{ltb}
 use lib.IntN.{ℤ}
 use lib.ListN.{length, set}
 use lib.Seq.{sets, set_comm, length-sets}
-use Rattle.names.specs.Tests.{if◌then◌else◌}
 use Rattle.lent_slots.specs.Tables.{Layout, as_words, as_bytes, laid, kept, Tables, kept_in, all_kept}
 use Rattle.lent_slots.proofs.Stores.{length_bytes}
 

@@ -1,4 +1,5 @@
 -- A table's records, slot by slot.
+use Rattle.std.specs.Prelude.{if◌then◌else◌}
 use Prim.Native.Nat.{ℕ, zero, suc, ◌+◌, ◌*◌, ◌-◌, ◌/◌, ◌≤◌, ◌<◌}
 use native.Mathlib.Nat.{div-add-mod'}
 use native.Mathlib.Numerals.{add-one}
@@ -9,7 +10,6 @@ use mathlib.Core.Path.{◌≡◌, sym, ap, ◌∙◌}
 use lib.IntN.{ℤ}
 use lib.ListN.{length, take, set}
 use lib.Seq.{take-suc-set}
-use Rattle.names.specs.Tests.{if◌then◌else◌}
 use Rattle.lent_slots.specs.Tables.{Tables}
 use Rattle.lent_slots.specs.Slots.{word_from, words_from, is_words, record_at, slots, records_from}
 

@@ -1,7 +1,6 @@
 -- The list of entries, one for each rule of a table: its head's number, and the months that its month-day items can touch. In lent bytes an entry is two numbers.
-use Rattle.std.specs.Prelude.{ℕ, zero, suc, ◌+◌, ◌*◌, ◌-◌, ◌/◌, ◌%◌, List, [], ◌∷◌, ltb, length}
+use Rattle.std.specs.Prelude.{ℕ, zero, suc, ◌+◌, ◌*◌, ◌-◌, ◌/◌, ◌%◌, List, [], ◌∷◌, ltb, length, if◌then◌else◌}
 use Rattle.std.proofs.lemmas.List.Edits.{sets}
-use Rattle.names.specs.Tests.{if◌then◌else◌}
 use Rattle.lent_slots.specs.Bytes.{little_endian}
 use Rattle.lent_slots.specs.Tables.{Tables}
 use Rattle.lent_slots.specs.Slots.{number_from, slots}

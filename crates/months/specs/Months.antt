@@ -1,7 +1,6 @@
 -- The months that a rule's month-day items can touch in any year (docs/RULES.md, 12).
-use Rattle.std.specs.Prelude.{ℕ, ◌+◌, Bool, true, false, ◌&&◌, ◌||◌, not, List, [], ◌∷◌, leb, eqb, ℤ}
+use Rattle.std.specs.Prelude.{ℕ, ◌+◌, Bool, true, false, ◌&&◌, ◌||◌, not, List, [], ◌∷◌, leb, eqb, ℤ, if◌then◌else◌}
 use Rattle.std.specs.Int.Signed.{le_z}
-use Rattle.names.specs.Tests.{if◌then◌else◌}
 use Rattle.records.specs.declared.Day.{Day}
 use Rattle.records.specs.declared.Day.TheVariants.{Fixed, Weekday, Easter}
 use Rattle.records.specs.declared.DateSpan.{DateSpan}

@@ -1,6 +1,5 @@
 -- What is known of a rule's months, item by item.
-use Rattle.std.specs.Prelude.{ℕ, Bool, true, false, ◌||◌, not, List, [], ◌∷◌, eqb}
-use Rattle.names.specs.Tests.{if◌then◌else◌}
+use Rattle.std.specs.Prelude.{ℕ, Bool, true, false, ◌||◌, not, List, [], ◌∷◌, eqb, if◌then◌else◌}
 use Rattle.records.specs.declared.Item.{Item}
 use Rattle.touched.specs.Kinds.{kind_of}
 use Rattle.months.specs.Months.{item_can}

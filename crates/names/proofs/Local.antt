@@ -1,4 +1,5 @@
 -- What a reader finds depends on nothing before its place, and on nothing from a `;` outside quotes on: a lemma for each way to put readers together.
+use Rattle.std.specs.Prelude.{if◌then◌else◌}
 use Prim.Native.Nat.compare
 use Prim.Native.Nat.{ℕ, zero, suc, ◌+◌, ◌≤◌, ◌<◌, max, compare}
 use mathlib.Core.List.{List, [], ◌∷◌, ◌++◌, append-nil}
@@ -11,7 +12,6 @@ use lib.Dec.{ltb, eqb}
 use lib.ListN.{length, get_or, drop, get_or-append, drop_of_length-le, length-append}
 use lib.Seq.{drop-cons, get_or-append-add, get_or_at}
 use borrow.Author.Tests.{ne_eqb, eqb-true, lt-ltb, le-ltb, ltb-true}
-use Rattle.names.specs.Tests.{if◌then◌else◌}
 use Rattle.names.specs.Quotes.{flips, inside_of}
 use Rattle.names.specs.Read.{Read, got, none, refused, Reader, follow, branch, nothing, pure, refuse, here, when, only, one, ahead}
 use Rattle.names.specs.Texts.{byte}

@@ -1,4 +1,5 @@
 -- What holds of each name of the table.
+use Rattle.std.specs.Prelude.{if◌then◌else◌}
 use Prim.Native.Nat.{ℕ, ◌≤◌, ◌<◌}
 use mathlib.Core.Bool.{Bool, true, false, ◌&&◌, true≢false, and-eq-true_iff}
 use mathlib.Core.List.{List, [], ◌∷◌}
@@ -7,7 +8,7 @@ use native.Mathlib.Omega.{arith}
 use borrow.Author.Tests.{leb-true, ltb-true}
 use lib.Dec.{leb, ltb}
 use lib.ListN.{length}
-use Rattle.names.specs.Tests.{if◌then◌else◌, within}
+use Rattle.names.specs.Tests.{within}
 use Rattle.names.specs.Names.{Row, names, spelled_so}
 use Rattle.names.proofs.Laws.{within_range}
 

@@ -1,7 +1,7 @@
 -- The names, and which of them stands at a place of a text (docs/RULES.md, 3).
-use Rattle.std.specs.Prelude.{ℕ, ◌+◌, List, [], ◌∷◌, ◌++◌, Bool, leb, eqb}
+use Rattle.std.specs.Prelude.{ℕ, ◌+◌, List, [], ◌∷◌, ◌++◌, Bool, leb, eqb, if◌then◌else◌}
 use Prim.Native.Char.{code}
-use Rattle.names.specs.Tests.{if◌then◌else◌, within}
+use Rattle.names.specs.Tests.{within}
 use Rattle.names.specs.Read.{Reader, branch, nothing, pure, ◌>>=◌, ◌>>◌, only}
 use Rattle.names.specs.Texts.{bytes, all_of}
 

@@ -1,4 +1,5 @@
 -- Which bytes a note is, for each way its numbers can be.
+use Rattle.std.specs.Prelude.{if◌then◌else◌}
 use Prim.Native.Nat.{ℕ, ◌+◌, ◌-◌, ◌≤◌, ◌<◌}
 use mathlib.Core.List.{List}
 use mathlib.Core.Bool.{Bool, true, false, true≢false}
@@ -13,7 +14,6 @@ use lib.Dec.{T, eqb, leb}
 use lib.Signed.{lt_z, mag, non_neg}
 use lib.ListN.{length, take, drop}
 use borrow.Author.Tests.{ne_eqb, le-ltb, le-leb, lt-leb}
-use Rattle.names.specs.Tests.{if◌then◌else◌}
 use Rattle.notes.specs.Notes.{Bytes, note_part, bytes_of, note_of, CutFrom}
 
 -- what the machine reads back is 0 where the number is

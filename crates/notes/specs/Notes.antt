@@ -1,7 +1,6 @@
 -- The note shown for a rule: the lent bytes, no copy (docs/RULES.md, 6).
-use Rattle.std.specs.Prelude.{ℕ, ◌+◌, ◌-◌, List, Bool, true, false, ◌≡◌, leb, eqb, ℤ, pos, negsuc, length, take, drop}
+use Rattle.std.specs.Prelude.{ℕ, ◌+◌, ◌-◌, List, Bool, true, false, ◌≡◌, leb, eqb, ℤ, pos, negsuc, length, take, drop, if◌then◌else◌}
 use Rattle.std.specs.Borrow.{Bor}
-use Rattle.names.specs.Tests.{if◌then◌else◌}
 use Rattle.notes.specs.declared.NotePart.{NotePart}
 
 -- lent bytes

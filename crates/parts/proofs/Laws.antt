@@ -1,4 +1,5 @@
 -- Quotes and parts, a byte at a time.
+use Rattle.std.specs.Prelude.{if◌then◌else◌}
 use Prim.Native.Nat.{ℕ, zero, suc, ◌+◌, ◌-◌, ◌≤◌, ◌<◌}
 use mathlib.Core.List.{List, [], ◌∷◌, ◌++◌}
 use mathlib.Core.Bool.{Bool, true, false, ◌&&◌, not}
@@ -9,7 +10,6 @@ use lib.Dec.{eqb}
 use lib.ListN.{length, get_or, take, drop, drop_of_length-le, get_or-eq_default}
 use lib.Seq.{take-suc, drop-cons}
 use borrow.Author.Tests.{ne_eqb}
-use Rattle.names.specs.Tests.{if◌then◌else◌}
 use Rattle.names.specs.Quotes.{flips, inside_of}
 use Rattle.parts.specs.Parts.{part_in, part_end, begins}
 

@@ -1,4 +1,5 @@
 -- Quotes and parts of texts put together.
+use Rattle.std.specs.Prelude.{if◌then◌else◌}
 use Prim.Native.Nat.{ℕ, zero, suc, ◌+◌, ◌-◌, ◌≤◌, ◌<◌}
 use mathlib.Core.List.{List, [], ◌∷◌, ◌++◌}
 use mathlib.Core.Bool.{Bool, true, false, ◌&&◌, not, true≢false, and-eq-true_iff}
@@ -10,7 +11,6 @@ use lib.Dec.{eqb}
 use lib.ListN.{length, get_or, take, drop, length-drop, get_or-append}
 use lib.Seq.{length-take-le, split_at, take-append-le, take-append-add, drop-append-le, drop_at, get_or-append-add, get_or-drop, take-add}
 use borrow.Author.Tests.{eqb-true, not-true}
-use Rattle.names.specs.Tests.{if◌then◌else◌}
 use Rattle.names.specs.Quotes.{flips, inside_of}
 use Rattle.parts.specs.Parts.{part_in, part_end, begins}
 use Rattle.parts.proofs.Laws.{inside_next, part_begin, begins_past}

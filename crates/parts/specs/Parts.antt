@@ -1,6 +1,5 @@
 -- Parts: a quote flips inside and outside, a part ends at a `;` outside (docs/RULES.md, 6).
-use Rattle.std.specs.Prelude.{ℕ, zero, suc, ◌+◌, List, [], ◌∷◌, ◌++◌, Bool, true, false, ◌&&◌, not, eqb, length, get_or, take, drop}
-use Rattle.names.specs.Tests.{if◌then◌else◌}
+use Rattle.std.specs.Prelude.{ℕ, zero, suc, ◌+◌, List, [], ◌∷◌, ◌++◌, Bool, true, false, ◌&&◌, not, eqb, length, get_or, take, drop, if◌then◌else◌}
 use Rattle.names.specs.Quotes.{flips, inside_of}
 
 -- the length of the part at the start of a text

@@ -1,4 +1,5 @@
 -- So the records of a sheet and of a part fit, where there are any.
+use Rattle.std.specs.Prelude.{if◌then◌else◌}
 use Prim.Native.Nat.{ℕ, suc, ◌/◌, ◌≤◌}
 use native.Mathlib.Omega.{arith}
 use mathlib.Core.List.{List}
@@ -7,7 +8,6 @@ use mathlib.Core.Path.{◌≡◌, refl}
 use lib.Dec.{ltb}
 use lib.IntN.{ℤ}
 use lib.ListN.{length, take}
-use Rattle.names.specs.Tests.{if◌then◌else◌}
 use Rattle.names.specs.Read.{Read, got, none, refused}
 use Rattle.names.specs.Refusals.{no_room, too_long, no_part}
 use Rattle.names.specs.declared.Manner.{Manner}

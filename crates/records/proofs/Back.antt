@@ -1,4 +1,5 @@
 -- A record that fits has the words of its item.
+use Rattle.std.specs.Prelude.{if◌then◌else◌}
 use Prim.Native.Nat.{ℕ, zero, suc, ◌+◌, ◌<◌, ◌≤◌}
 use native.Mathlib.Omega.{arith}
 use native.Mathlib.Numerals.{towards_suc}
@@ -11,7 +12,6 @@ use lib.IntN.{ℤ, pos, negsuc, nat_abs}
 use lib.Signed.{non_neg, le_z}
 use lib.ListN.{length, drop, replicate, length-drop}
 use lib.Seq.{drop-cons}
-use Rattle.names.specs.Tests.{if◌then◌else◌}
 use Rattle.records.specs.Words.{date_words, time_words, repeat_word, bit, words_of, placed_at}
 use Rattle.records.specs.declared.Repeat.TheVariants.{Never, Every}
 use Rattle.records.specs.Ranges as ranges

@@ -1,4 +1,5 @@
 -- A word of a record, as the machine reads it.
+use Rattle.std.specs.Prelude.{if◌then◌else◌}
 use Prim.Native.Nat.{ℕ, zero, suc, ◌+◌, ◌^◌, ◌<◌, ◌≤◌}
 use native.Mathlib.Numerals.{add-one}
 use lib.ListN.{length, drop, drop_of_length-le}
@@ -15,7 +16,6 @@ use mir.Syntax.{w8, w16, w32}
 use mir.Val.{Fits, SFits, of_z, to_z}
 use mir.Facts.{to_z-of_z}
 use borrow.Author.Rules.{sfits_of}
-use Rattle.names.specs.Tests.{if◌then◌else◌}
 use Rattle.records.proofs.Laws.{word_fits, half_fits}
 use Rattle.records.specs.Ranges.{between, from, exactly, about, year, nth}
 use Rattle.records.specs.Fits.{word_at, unused}

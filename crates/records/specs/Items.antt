@@ -1,6 +1,5 @@
 -- An item: its longest shape is read, and then judged (docs/RULES.md, 3).
-use Rattle.std.specs.Prelude.{ℕ, Bool, leb, ℤ, pos, neg_ℤ}
-use Rattle.names.specs.Tests.{if◌then◌else◌}
+use Rattle.std.specs.Prelude.{ℕ, Bool, leb, ℤ, pos, neg_ℤ, if◌then◌else◌}
 use Rattle.names.specs.Read.{Reader, pure, refuse, here, ◌>>=◌}
 use Rattle.records.specs.declared.Item.{Item}
 use Rattle.records.specs.declared.Meant.{Meant}

@@ -1,6 +1,5 @@
 -- Warnings: a name that is not written as it should be calls for one (docs/RULES.md, 3).
-use Rattle.std.specs.Prelude.{ℕ, ◌+◌, Bool}
-use Rattle.names.specs.Tests.{if◌then◌else◌}
+use Rattle.std.specs.Prelude.{ℕ, ◌+◌, Bool, if◌then◌else◌}
 use Rattle.records.specs.declared.Odd.{Odd}
 use Rattle.records.specs.declared.Item.{Item}
 use Rattle.records.specs.declared.Item.TheVariants.{Years, Months, Dates, Weeks, Weekdays, Holidays, Times}

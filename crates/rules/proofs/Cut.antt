@@ -1,4 +1,5 @@
 -- Each definition depends on nothing before its place and nothing from a `;` outside quotes on: the lemmas put together as the definitions are.
+use Rattle.std.specs.Prelude.{if◌then◌else◌}
 use Prim.Native.Nat.{ℕ, zero, suc, ◌+◌, ◌-◌, ◌<◌}
 use mathlib.Core.List.{List, [], ◌∷◌, ◌++◌, append-nil}
 use mathlib.Core.List as list
@@ -11,7 +12,6 @@ use borrow.Author.Tests.{eq-eqb, ne_eqb, ltb-true}
 use lib.Dec.{ltb, eqb}
 use lib.ListN.{length, get_or, length-append, length-map, get_or-append}
 use lib.Seq.{get_or-append-add, get_or_at}
-use Rattle.names.specs.Tests.{if◌then◌else◌}
 use Rattle.names.specs.Read.{Read, got, none, refused, Reader, follow, branch, nothing, pure, refuse, here, when, only, one}
 use Rattle.names.specs.Chain.{skip, chain}
 use Rattle.names.specs.Texts.{byte, bytes}

@@ -1,10 +1,10 @@
 -- A rule has at most 6 warnings for each of its records: its items have, and its head, which is a record too, adds its modifier's one.
+use Rattle.std.specs.Prelude.{if◌then◌else◌}
 use Prim.Native.Nat.{ℕ, suc, ◌*◌, ◌≤◌}
 use mathlib.Core.Bool.{Bool, true, false}
 use mathlib.Core.List.{List, [], ◌∷◌}
 use native.Mathlib.Omega.{arith}
 use lib.ListN.{length}
-use Rattle.names.specs.Tests.{if◌then◌else◌}
 use Rattle.records.proofs.Warned.{item_warnings_few}
 use Rattle.records.specs.Words.{Placed}
 use Rattle.rules.specs.Rules.{tail_warnings, items_warnings, rule_of}

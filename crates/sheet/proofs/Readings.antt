@@ -1,4 +1,5 @@
 -- What the counted rules of a text come to: a refusal, too little room, or an answer and the tables with its records.
+use Rattle.std.specs.Prelude.{if◌then◌else◌}
 use Prim.Native.Nat.{ℕ, ◌*◌, ◌/◌, ◌≤◌, ◌<◌}
 use mathlib.Core.List.{List, [], ◌∷◌}
 use mathlib.Core.List as list
@@ -11,7 +12,6 @@ use lib.IntN.{ℤ, pos}
 use lib.ListN.{length, take, length-set}
 use borrow.Author.Tests.{lt-ltb, le-ltb, ltb-false}
 use Rattle.names.specs.declared.Manner.{Manner}
-use Rattle.names.specs.Tests.{if◌then◌else◌}
 use Rattle.names.specs.Read.{Read, got, none, refused, follow, nothing, pure}
 use Rattle.lent_slots.specs.Tables.{Layout, as_words, as_bytes, kept, Tables, kept_in, all_kept, records_in}
 use Rattle.lent_slots.proofs.Keeps.{all_laid}

@@ -1,6 +1,5 @@
 -- Reading a part (docs/RULES.md, 6).
-use Rattle.std.specs.Prelude.{ℕ, suc, List, [], Bool, true, false, not, ltb, ℤ, length, take}
-use Rattle.names.specs.Tests.{if◌then◌else◌}
+use Rattle.std.specs.Prelude.{ℕ, suc, List, [], Bool, true, false, not, ltb, ℤ, length, take, if◌then◌else◌}
 use Rattle.names.specs.Refusals.{no_part, too_long}
 use Rattle.names.specs.declared.Manner.{Manner}
 use Rattle.names.specs.declared.Manner.TheVariants.{First}

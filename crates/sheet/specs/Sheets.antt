@@ -1,6 +1,5 @@
 -- Reading a text, and a sheet (docs/RULES.md, 6).
-use Rattle.std.specs.Prelude.{ℕ, ◌*◌, ◌/◌, List, [], ltb, ℤ, length}
-use Rattle.names.specs.Tests.{if◌then◌else◌}
+use Rattle.std.specs.Prelude.{ℕ, ◌*◌, ◌/◌, List, [], ltb, ℤ, length, if◌then◌else◌}
 use Rattle.names.specs.Read.{Read, got, none, refused}
 use Rattle.names.specs.Refusals.{no_room, no_shape, too_long}
 use Rattle.names.specs.declared.Manner.{Manner}

@@ -1,4 +1,5 @@
 -- The forward reading of a table's records is what cutting them into rules says.
+use Rattle.std.specs.Prelude.{if◌then◌else◌}
 use Prim.Native.Nat.{ℕ, zero, suc}
 use native.Mathlib.Omega.{arith}
 use mathlib.Core.List.{List, [], ◌∷◌}
@@ -8,7 +9,6 @@ use borrow.Author.Tests.{eq-eqb, ne_eqb, eqb-true, eqb-false}
 use lib.Dec.{eqb}
 use lib.IntN.{ℤ}
 use lib.ListN.{length}
-use Rattle.names.specs.Tests.{if◌then◌else◌}
 use Rattle.records.specs.Ranges.{between}
 use Rattle.records.specs.Fits.{word_at, head_fits, item_fits}
 use Rattle.tables.specs.Tables.{Cut, is_head, cut, items_of, all_fit, rule_fits, rules_fit, records_fit, goes_on}

@@ -1,6 +1,5 @@
 -- Tables of records, lent as words or as bytes: which of them fit (02, Ask 4).
-use Rattle.std.specs.Prelude.{ℕ, zero, suc, List, [], ◌∷◌, Bool, true, ◌&&◌, not, ◌≡◌, eqb, ℤ, length}
-use Rattle.names.specs.Tests.{if◌then◌else◌}
+use Rattle.std.specs.Prelude.{ℕ, zero, suc, List, [], ◌∷◌, Bool, true, ◌&&◌, not, ◌≡◌, eqb, ℤ, length, if◌then◌else◌}
 use Rattle.lent_slots.specs.Tables.{Tables}
 use Rattle.lent_slots.specs.Slots.{is_whole, records_of}
 use Rattle.records.specs.Fits.{is_kind, head_fits, item_fits}

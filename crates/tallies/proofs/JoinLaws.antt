@@ -1,4 +1,5 @@
 -- Joining: what it answers; order and grouping do not matter; the fresh tally changes nothing; one refused join refuses the whole.
+use Rattle.std.specs.Prelude.{if◌then◌else◌}
 use Prim.Native.Nat.{ℕ}
 use mathlib.Core.List.{List, [], ◌∷◌, ◌++◌}
 use mathlib.Core.Option.{Option, none, some}
@@ -7,7 +8,6 @@ use mathlib.Core.Path.{◌≡◌, refl, sym, ap, ◌∙◌}
 use borrow.Author.Tests.{eq-eqb, ne_eqb}
 use lib.Dec.{eqb}
 use lib.ListN.{length, replicate}
-use Rattle.names.specs.Tests.{if◌then◌else◌}
 use Rattle.tallies.specs.Sums.{plus, all_within}
 use Rattle.tallies.specs.Counts.{counts_of}
 use Rattle.tallies.specs.Stored.{counts_in, bytes_of}

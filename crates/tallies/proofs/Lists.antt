@@ -1,4 +1,5 @@
 -- A run of answers: every count is what the definition over the list says.
+use Rattle.std.specs.Prelude.{if◌then◌else◌}
 use Prim.Native.Nat.{ℕ, zero, suc, ◌+◌, ◌-◌, ◌≤◌, ◌<◌}
 use native.Mathlib.Nat.{add-zero, zero-add, sub-zero}
 use native.Mathlib.Omega.{arith}
@@ -9,7 +10,6 @@ use borrow.Author.Tests.{ne_eqb, eqb-true, eqb-false}
 use lib.Dec.{eqb}
 use lib.IntN.{ℤ}
 use lib.ListN.{length, set, replicate, length-set, length-append}
-use Rattle.names.specs.Tests.{if◌then◌else◌}
 use Rattle.lent_slots.specs.Slots.{records_of}
 use Rattle.tallies.specs.Sums.{plus, all_within}
 use Rattle.tallies.specs.Counts.{one, marks_of, record_counts, total, own, counts_of}

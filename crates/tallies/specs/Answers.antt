@@ -1,6 +1,6 @@
 -- Which answers and records fit, and what a tally that takes them in answers (02, Ask 4).
-use Rattle.std.specs.Prelude.{ℕ, List, Bool, ◌&&◌, ◌||◌, eqb, leb, length}
-use Rattle.names.specs.Tests.{if◌then◌else◌, within}
+use Rattle.std.specs.Prelude.{ℕ, List, Bool, ◌&&◌, ◌||◌, eqb, leb, length, if◌then◌else◌}
+use Rattle.names.specs.Tests.{within}
 use Rattle.lent_slots.specs.Tables.{Tables}
 use Rattle.lent_slots.specs.Slots.{slots}
 use Rattle.tables.specs.Tables.{table_fits}

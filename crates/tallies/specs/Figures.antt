@@ -1,6 +1,5 @@
 -- A month's figures: each count over a list of answers and their records, by itself and without limit (02, Ask 4).
-use Rattle.std.specs.Prelude.{ℕ, zero, suc, ◌+◌, List, [], ◌∷◌, ◌++◌, map, true, ◌≡◌, eqb}
-use Rattle.names.specs.Tests.{if◌then◌else◌}
+use Rattle.std.specs.Prelude.{ℕ, zero, suc, ◌+◌, List, [], ◌∷◌, ◌++◌, map, true, ◌≡◌, eqb, if◌then◌else◌}
 use Rattle.lent_slots.specs.Tables.{Tables}
 use Rattle.lent_slots.specs.Slots.{records_of}
 use Rattle.tallies.specs.Counts.{one, marks_of}

@@ -1,7 +1,6 @@
 -- Two tallies joined: every count is added (02, Ask 13).
-use Rattle.std.specs.Prelude.{ℕ, List, [], ◌∷◌, ◌++◌, true, ◌&&◌, ◌≡◌, eqb, length}
+use Rattle.std.specs.Prelude.{ℕ, List, [], ◌∷◌, ◌++◌, true, ◌&&◌, ◌≡◌, eqb, length, if◌then◌else◌}
 use Rattle.std.proofs.Math.Option.{Option, none, some}
-use Rattle.names.specs.Tests.{if◌then◌else◌}
 use Rattle.tallies.specs.Sums.{plus, all_within}
 use Rattle.tallies.specs.Stored.{counts_in, stored_in}
 

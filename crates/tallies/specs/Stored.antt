@@ -1,6 +1,5 @@
 -- A tally in 136 bytes: 34 counts of 32 bits, unsigned, little-endian; another length is refused with 16.
-use Rattle.std.specs.Prelude.{ℕ, zero, suc, ◌+◌, List, [], ◌∷◌, ◌++◌, eqb, length}
-use Rattle.names.specs.Tests.{if◌then◌else◌}
+use Rattle.std.specs.Prelude.{ℕ, zero, suc, ◌+◌, List, [], ◌∷◌, ◌++◌, eqb, length, if◌then◌else◌}
 use Rattle.lent_slots.specs.Bytes.{little_endian}
 use Rattle.lent_slots.specs.Slots.{number_from}
 use Rattle.tallies.specs.Answers.{taken_in}

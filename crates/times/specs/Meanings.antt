@@ -1,8 +1,7 @@
 -- Ranges: MM 0 to 59; hour 0 to 23 with 24:00 besides; as a span's end 0:00 to 48:00. `/24:00` is out of range (docs/RULES.md, 4).
 -- `10:00+` ends at 24:00, open. Spans are not reordered. A time alone is refused as 8, but for the second edition, where it ends where it starts.
-use Rattle.std.specs.Prelude.{ℕ, Bool, true, false, ◌&&◌, not, leb, ltb, ℤ}
+use Rattle.std.specs.Prelude.{ℕ, Bool, true, false, ◌&&◌, not, leb, ltb, ℤ, if◌then◌else◌}
 use Rattle.std.specs.Int.Signed.{le_z}
-use Rattle.names.specs.Tests.{if◌then◌else◌}
 use Rattle.names.specs.Refusals.{point_in_time, range}
 use Rattle.names.specs.declared.Manner.{Manner}
 use Rattle.names.specs.declared.Manner.TheVariants.{First, Second, House}

@@ -1,6 +1,5 @@
 -- Time: `H:MM`, or an event (`dawn`, `sunrise`, `sunset`, `dusk`), or `(event±H:MM)` (docs/RULES.md, 2).
-use Rattle.std.specs.Prelude.{ℕ, ◌+◌, ◌*◌, Bool, true, false, leb, eqb, ℤ}
-use Rattle.names.specs.Tests.{if◌then◌else◌}
+use Rattle.std.specs.Prelude.{ℕ, ◌+◌, ◌*◌, Bool, true, false, leb, eqb, ℤ, if◌then◌else◌}
 use Rattle.names.specs.Read.{Read, got, none, refused, Reader, pure, ◌>>=◌, ◌>>◌, ◌or◌}
 use Rattle.names.specs.Texts.{sign}
 use Rattle.names.specs.Numbers.{hour, minute}

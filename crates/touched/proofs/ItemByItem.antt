@@ -1,10 +1,10 @@
 -- Item by item, the code comes to what the rule is.
+use Rattle.std.specs.Prelude.{if◌then◌else◌}
 use Prim.Native.Nat.{ℕ}
 use mathlib.Core.Bool.{Bool, true, false}
 use mathlib.Core.List.{List, [], ◌∷◌}
 use mathlib.Core.Path.{◌≡◌, refl, sym, ap, ◌∙◌}
 use lib.Dec.{eqb}
-use Rattle.names.specs.Tests.{if◌then◌else◌}
 use Rattle.records.specs.declared.Item.{Item}
 use Rattle.almanac.specs.declared.OnDay.{OnDay}
 use Rattle.touched.specs.Touches.{best}

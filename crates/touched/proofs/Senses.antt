@@ -1,4 +1,5 @@
 -- The tests, in other words.
+use Rattle.std.specs.Prelude.{if◌then◌else◌}
 use Prim.Native.Nat.{ℕ, ◌+◌, ◌-◌, ◌*◌, ◌/◌, ◌%◌, ◌≤◌, ◌<◌}
 use mathlib.Core.Bool.{Bool, true, false, ◌&&◌, ◌||◌, true≢false, and-eq-true_iff}
 use mathlib.Core.Logic.{◌↔◌}
@@ -8,7 +9,7 @@ use native.Mathlib.Nat.{mul-mod_left, div-add-mod'}
 use native.Mathlib.Decide.{dec_lt}
 use borrow.Author.Tests.{eq-eqb, eqb-true, leb-true, leb-false}
 use lib.Dec.{leb, eqb}
-use Rattle.names.specs.Tests.{if◌then◌else◌, within}
+use Rattle.names.specs.Tests.{within}
 use Rattle.names.proofs.Laws.{within_true, within_range}
 use Rattle.almanac.specs.Numbers.{number}
 use Rattle.almanac.specs.Laws.{Known}

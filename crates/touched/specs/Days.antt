@@ -1,7 +1,6 @@
 -- A rule run over recorded days (docs/RULES.md, 11): lent bytes have three numbers for each day, year, month and day, and one number for each answer.
-use Rattle.std.specs.Prelude.{ℕ, zero, suc, ◌+◌, ◌*◌, ◌/◌, ◌%◌, Bool, true, ◌&&◌, List, [], ◌∷◌, map, eqb, leb, ltb, length}
+use Rattle.std.specs.Prelude.{ℕ, zero, suc, ◌+◌, ◌*◌, ◌/◌, ◌%◌, Bool, true, ◌&&◌, List, [], ◌∷◌, map, eqb, leb, ltb, length, if◌then◌else◌}
 use Rattle.std.proofs.Math.Option.{Option, none, some}
-use Rattle.names.specs.Tests.{if◌then◌else◌}
 use Rattle.lent_slots.specs.Tables.{Tables}
 use Rattle.records.specs.declared.Item.{Item}
 use Rattle.lent_slots.specs.Slots.{number_from}

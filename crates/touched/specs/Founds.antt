@@ -1,6 +1,5 @@
 -- What is known of a rule on a day, item by item.
-use Rattle.std.specs.Prelude.{ℕ, List, [], ◌∷◌, ◌++◌, ◌≡◌, eqb}
-use Rattle.names.specs.Tests.{if◌then◌else◌}
+use Rattle.std.specs.Prelude.{ℕ, List, [], ◌∷◌, ◌++◌, ◌≡◌, eqb, if◌then◌else◌}
 use Rattle.records.specs.declared.Item.{Item}
 use Rattle.almanac.specs.declared.OnDay.{OnDay}
 use Rattle.touched.specs.Touches.{best, worst}

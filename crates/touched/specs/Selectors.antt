@@ -1,6 +1,6 @@
 -- Whether a day selector touches a day.
-use Rattle.std.specs.Prelude.{ℕ, ◌+◌, ◌-◌, ◌*◌, Bool, false, ◌&&◌, ◌||◌, leb, eqb, ℤ, pos, negsuc}
-use Rattle.names.specs.Tests.{if◌then◌else◌, within}
+use Rattle.std.specs.Prelude.{ℕ, ◌+◌, ◌-◌, ◌*◌, Bool, false, ◌&&◌, ◌||◌, leb, eqb, ℤ, pos, negsuc, if◌then◌else◌}
+use Rattle.names.specs.Tests.{within}
 use Rattle.calendar.specs.Calendar.{divisible}
 use Rattle.records.specs.declared.Day.{Day}
 use Rattle.records.specs.declared.Day.TheVariants.{Fixed, Weekday, Easter}

@@ -1,6 +1,6 @@
 -- What the tests of selectors say, in other words than their definitions.
-use Rattle.std.specs.Prelude.{ℕ, ◌+◌, ◌-◌, ◌*◌, ◌≤◌, true, ◌↔◌, ◌≡◌, leb}
-use Rattle.names.specs.Tests.{if◌then◌else◌, within}
+use Rattle.std.specs.Prelude.{ℕ, ◌+◌, ◌-◌, ◌*◌, ◌≤◌, true, ◌↔◌, ◌≡◌, leb, if◌then◌else◌}
+use Rattle.names.specs.Tests.{within}
 use Rattle.almanac.specs.Numbers.{number}
 use Rattle.almanac.specs.Laws.{Known}
 use Rattle.almanac.specs.declared.Ymd.{Ymd}

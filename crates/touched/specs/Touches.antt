@@ -1,6 +1,5 @@
 -- Whether a day is touched: no, undecided or yes; the best and the worst of two.
-use Rattle.std.specs.Prelude.{ℕ, Bool}
-use Rattle.names.specs.Tests.{if◌then◌else◌}
+use Rattle.std.specs.Prelude.{ℕ, Bool, if◌then◌else◌}
 use Rattle.touched.specs.declared.Touch.{Touch}
 use Rattle.touched.specs.declared.Touch.TheVariants.{No, Undecided, Yes}
 

@@ -1,6 +1,6 @@
 -- Well-formed UTF-8 said another way: the code points of RFC 3629, section 3, each in its shortest form. That both say the same is proved.
-use Rattle.std.specs.Prelude.{ℕ, ◌+◌, ◌/◌, ◌%◌, Bool, true, ◌&&◌, not, List, [], ◌∷◌, ◌++◌, ◌≡◌, leb, length}
-use Rattle.names.specs.Tests.{if◌then◌else◌, within}
+use Rattle.std.specs.Prelude.{ℕ, ◌+◌, ◌/◌, ◌%◌, Bool, true, ◌&&◌, not, List, [], ◌∷◌, ◌++◌, ◌≡◌, leb, length, if◌then◌else◌}
+use Rattle.names.specs.Tests.{within}
 use Rattle.names.specs.Read.{got}
 use Rattle.utf8.specs.Utf8.{utf8_octets}
 
