@@ -18,18 +18,18 @@ overflow_add-result c = omega (arith, inside c.args.s.now c.args.self.at (omega 
 pub returns-then-is_digit : goal.returns-then-is_digit
 unfolding digit is_digit within
 returns-then-is_digit c = record {
-      is = rw (one_is is_digit refl c.args.s.now c.args.self.at c.byte-b.ensures ((let told : is_digit c.byte-b.result ≡ true = sym c.is_digit.ensures ∙ c.if-is_digit.true in told)));
-      small = omega (
-        arith,
-        within_range 48 57
-            c.byte-b.result ((let told : is_digit c.byte-b.result ≡ true = sym c.is_digit.ensures ∙ c.if-is_digit.true in told)),
-      );
-    }
+  is = rw (one_is is_digit refl c.args.s.now c.args.self.at c.byte-b.ensures ((let told : is_digit c.byte-b.result ≡ true = sym c.is_digit.ensures ∙ c.if-is_digit.true in told)));
+  small = omega (
+    arith,
+    within_range 48 57
+        c.byte-b.result ((let told : is_digit c.byte-b.result ≡ true = sym c.is_digit.ensures ∙ c.if-is_digit.true in told)),
+  );
+}
 
 pub returns-else-is_digit : goal.returns-else-is_digit
 unfolding digit is_digit within
 returns-else-is_digit c = record {
-      is = rw (one_is is_digit refl c.args.s.now c.args.self.at c.byte-b.ensures (sym c.is_digit.ensures
-          ∙ c.if-is_digit.false));
-      small = search rules;
-    }
+  is = rw (one_is is_digit refl c.args.s.now c.args.self.at c.byte-b.ensures (sym c.is_digit.ensures
+      ∙ c.if-is_digit.false));
+  small = search rules;
+}
