@@ -9,7 +9,6 @@ use mathlib.Core.Path.{◌≡◌, sym, ap, ◌∙◌}
 use lib.IntN.{ℤ}
 use lib.ListN.{length, take, set}
 use lib.Seq.{take-suc-set}
-use Rattle.names.specs.Tests.{if◌then◌else◌}
 use Rattle.lent_slots.specs.Tables.{Tables}
 use Rattle.lent_slots.specs.Slots.{word_from, words_from, is_words, record_at, slots, records_from}
 
