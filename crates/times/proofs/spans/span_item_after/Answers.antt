@@ -52,7 +52,7 @@ returns-in-Got c = rw ((went c.sign-plus.ensures c.in-Got.is).is, ← c.open_mea
 pub returns-in-Missing : goal.returns-in-Missing
 unfolding span_after
 returns-in-Missing c = rw (
-  ((let told : Went = went c.sign-plus.ensures c.in_default.is in told)).is,
+  (went c.sign-plus.ensures c.in_default.is).is,
   next c.args.p (span_meaning c.args.m) c.args.s.now c.args.c.at c.until_item-until.result c.in-Missing.is (Alone (c.args.start, c.args.odd))
       (until_time (c.args.start, c.args.odd) c.args.s.now c.args.c.at) (c.until_item-until.ensures c.args.m),
   ← c.alone_meaning.ensures,
@@ -62,5 +62,5 @@ returns-in-Missing c = rw (
 
 pub returns-in_default-until : goal.returns-in_default-until
 unfolding span_after
-returns-in_default-until c = rw ((let told : Went = went c.sign-plus.ensures c.in_default.is in told)).is (stays c.args.p (span_meaning c.args.m) c.args.s.now c.args.c.at c.until_item-until.result c.in_default-until.not-Missing (pure (Alone (c.args.start, c.args.odd)))
+returns-in_default-until c = rw (went c.sign-plus.ensures c.in_default.is).is (stays c.args.p (span_meaning c.args.m) c.args.s.now c.args.c.at c.until_item-until.result c.in_default-until.not-Missing (pure (Alone (c.args.start, c.args.odd)))
     (until_time (c.args.start, c.args.odd) c.args.s.now c.args.c.at) (c.until_item-until.ensures c.args.m))
