@@ -14,8 +14,8 @@ returns-in_default-number c = rw ((went c.sign-minus.ensures c.in-Got.is).is, (w
 
 pub overflow_cast-k : goal.overflow_cast-k
 unfolding back_entry
-overflow_cast-k c = omega (arith, ((went c.sign-minus.ensures c.in-Got.is), was c.ordinal-number.ensures c.in-Got-number.is).1)
+overflow_cast-k c = omega (arith, (let told : Went × Was = (went c.sign-minus.ensures c.in-Got.is, was c.ordinal-number.ensures c.in-Got-number.is) in told).1)
 
 pub returns : goal.returns
 unfolding back_entry
-returns c = let w = ((went c.sign-minus.ensures c.in-Got.is), was c.ordinal-number.ensures c.in-Got-number.is) in rw (w.0.is, w.1.is)
+returns c = let w : Went × Was = (went c.sign-minus.ensures c.in-Got.is, was c.ordinal-number.ensures c.in-Got-number.is) in rw (w.0.is, w.1.is)

@@ -26,7 +26,7 @@ returns-in_default-more c = marked_first c.args.s.now c.args.c.at (said c.entry-
     ∙ c.loop-f.invariant ∙ marked_done c.args.s.now c.loop-f.at c.loop-f.marks (said c.next_entry-more.ensures (ap seen_entry c.in_default-more.is)).is
 
 pub loop-f-smaller : goal.loop-f-smaller
-loop-f-smaller c = let w = (said c.next_entry-more.ensures (ap seen_entry c.in-Got-more.is)) in omega (arith, past_one next_entry_alike w.is)
+loop-f-smaller c = let w : Said Entry = said c.next_entry-more.ensures (ap seen_entry c.in-Got-more.is) in omega (arith, past_one next_entry_alike w.is)
 
 pub loop-f-preserved : goal.loop-f-preserved
 loop-f-preserved c = c.loop-f.invariant ∙ marked_more c.args.s.now c.loop-f.at c.loop-f.marks (said c.next_entry-more.ensures (ap seen_entry c.in-Got-more.is)).is c.marked-marks-in-loop-f.ensures

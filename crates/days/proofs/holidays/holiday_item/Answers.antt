@@ -14,7 +14,7 @@ returns-in_default c = rw (was c.name-name.ensures c.in_default.is).is
 
 pub overflow_cast-kind : goal.overflow_cast-kind
 unfolding holiday_item holiday_item_after holiday_shape
-overflow_cast-kind c = omega (arith, (was c.name-name.ensures c.in-Got.is))
+overflow_cast-kind c = omega (arith, was c.name-name.ensures c.in-Got.is)
 
 pub returns : goal.returns
 unfolding holiday_item holiday_item_after holiday_shape

@@ -16,8 +16,8 @@ returns-in_default-inner c = rw ((went c.sign-left.ensures c.in-Got.is).is, (sai
 
 pub returns-in_default-right : goal.returns-in_default-right
 unfolding bracketed
-returns-in_default-right c = let w = ((went c.sign-left.ensures c.in-Got.is), said c.entries-inner.ensures (ap seen_marks c.in-Got-inner.is)) in rw (w.0.is, w.1.is, (went c.sign-right.ensures c.in_default-right.is).is)
+returns-in_default-right c = let w : Went × Said Marks = (went c.sign-left.ensures c.in-Got.is, said c.entries-inner.ensures (ap seen_marks c.in-Got-inner.is)) in rw (w.0.is, w.1.is, (went c.sign-right.ensures c.in_default-right.is).is)
 
 pub returns : goal.returns
 unfolding bracketed
-returns c = let w = ((went c.sign-left.ensures c.in-Got.is), said c.entries-inner.ensures (ap seen_marks c.in-Got-inner.is)) in rw (w.0.is, w.1.is, (went c.sign-right.ensures c.in-Got-right.is).is)
+returns c = let w : Went × Said Marks = (went c.sign-left.ensures c.in-Got.is, said c.entries-inner.ensures (ap seen_marks c.in-Got-inner.is)) in rw (w.0.is, w.1.is, (went c.sign-right.ensures c.in-Got-right.is).is)

@@ -17,7 +17,7 @@ returns-in_default c = rw (named_none c.args.s.now c.args.c.at weekday (was c.na
 
 pub overflow_cast-first : goal.overflow_cast-first
 unfolding weekday_item weekday_item_after weekday_shape
-overflow_cast-first c = omega (arith, (was c.name-name.ensures c.in-Got.is))
+overflow_cast-first c = omega (arith, was c.name-name.ensures c.in-Got.is)
 
 pub weekday_item_after-requires : goal.weekday_item_after-requires
 unfolding weekday_item weekday_item_after weekday_shape

@@ -18,4 +18,4 @@ returns-in_default-last c = λ m. rw ((went c.sign-minus.ensures c.in-Got.is).is
 
 pub returns : goal.returns
 unfolding until_time
-returns c = λ m. let k = ((went c.sign-minus.ensures c.in-Got.is), said c.time-last.ensures (ap seen_time c.in-Got-last.is)) in rw (k.0.is, k.1.is, c.tail-t.ensures, ← c.until_meaning.ensures m, judged_in c.args.p c.until_meaning.result c.args.s.now [] c.tail-t.result.next.at) c.judged.ensures
+returns c = λ m. let k : Went × Said Spelt = (went c.sign-minus.ensures c.in-Got.is, said c.time-last.ensures (ap seen_time c.in-Got-last.is)) in rw (k.0.is, k.1.is, c.tail-t.ensures, ← c.until_meaning.ensures m, judged_in c.args.p c.until_meaning.result c.args.s.now [] c.tail-t.result.next.at) c.judged.ensures
