@@ -1,6 +1,5 @@
 use mathlib.Core.Path.{sym, ◌∙◌}
 use Rattle.records.specs.Fits.{item_fits}
-use borrow.Author.Rules.{rules}
 use Rattle.records.proofs.fits.item_fits.Goals as goal
 
 pub returns-then-between : goal.returns-then-between

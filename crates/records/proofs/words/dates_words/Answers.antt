@@ -3,7 +3,6 @@ use borrow.Author.Rules.{rules}
 use native.Mathlib.Omega.{arith}
 use lib.Signed.{mag}
 use Rattle.records.specs.Words.{words_of}
-use Rattle.records.specs.declared.DateSpan.{DateSpan}
 use Rattle.records.proofs.Laws.{word, word_fits, wide_fits, wide_word}
 use Rattle.records.proofs.words.dates_words.Goals as goal
 
