@@ -1,11 +1,8 @@
 use Prim.Native.Nat.{ℕ}
-use mathlib.Core.List.{List, [], ◌∷◌}
+use mathlib.Core.List.{List, []}
 use mathlib.Core.Path.{◌≡◌, refl}
-use borrow.Author.Rules.{rules}
-use denote.Enum.Declared.{tag_of}
-use types.Run.{OneOf, miss}
 use Rattle.names.specs.Read.{Read, got, none, refused, Reader, follow, nothing, pure}
-use Rattle.names.proofs.Facts.{Went, went}
+use Rattle.names.proofs.Facts.{went}
 use Rattle.records.specs.Items.{judged}
 use Rattle.records.specs.Seen.{seen_item}
 use Rattle.records.specs.declared.Item.{Item}
@@ -13,7 +10,6 @@ use Rattle.records.specs.declared.ItemRead.{ItemRead}
 use Rattle.records.specs.declared.ItemRead.TheVariants as item
 use Rattle.records.specs.declared.Meant.{Meant}
 use Rattle.records.specs.declared.Meant.TheVariants.{Is, Refused}
-use Rattle.records.specs.contracts.ItemRead.{the_type as item-type}
 use Rattle.records.proofs.Anywhere.{judged_in}
 use Rattle.times.specs.Shapes.{RawSpan, Alone}
 use Rattle.times.specs.Spans.{until_time, span_after}

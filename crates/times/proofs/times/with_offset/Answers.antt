@@ -1,4 +1,3 @@
-use borrow.Author.Rules.{rules}
 use Rattle.names.proofs.Facts.{Went, went}
 use Rattle.times.specs.Times.{with_offset}
 use Rattle.times.proofs.Laws.{with_offset_plus, with_offset_minus}
