@@ -1,4 +1,5 @@
 -- What was written is read back as it was, and what is read has just these words. No name of what is read calls for a warning.
+use Rattle.std.specs.Prelude.{if◌then◌else◌}
 use Prim.Native.Nat.{ℕ, zero, suc, ◌+◌, ◌≤◌}
 use native.Mathlib.Omega.{arith}
 use mathlib.Core.List.{List, [], ◌∷◌, ◌++◌}
@@ -8,7 +9,6 @@ use mathlib.Core.Path.{◌≡◌, refl, sym, ap, ◌∙◌}
 use lib.IntN.{ℤ, pos}
 use lib.Signed.{non_neg}
 use lib.ListN.{length, drop}
-use Rattle.names.specs.Tests.{if◌then◌else◌}
 use Rattle.records.specs.Ranges as ranges
 use Rattle.records.specs.Ranges.{between, from, exactly, up}
 use Rattle.records.specs.Fits.{word_at, passes, unused, is_kind, head_fits, years_fit, months_fit, date_fits, dates_fit, weeks_fit, weekdays_fit, holidays_fit, time_fits, times_fit, item_fits}
