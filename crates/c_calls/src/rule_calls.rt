@@ -6,12 +6,7 @@ use months::{renew_months, rule_months};
 use touched::rule_days;
 
 // Runs a rule over recorded days: the number is returned, an answer for each day is written.
-pub fn lorukinde_rule_days(
-    table: &[u8],
-    rule: usize,
-    days: &[u8],
-    answers: &mut [u8],
-) -> u32
+pub fn lorukinde_rule_days(table: &[u8], rule: usize, days: &[u8], answers: &mut [u8]) -> u32
     ensures { (result, answers.new) ≡ calls.days_call table.now rule days.now answers.old }
 {
     let none = [0i32; 0];

@@ -1,8 +1,8 @@
 -- The sentences of the house profile over rules are those over their records.
-use Prim.Native.Nat.{ℕ, ◌≤◌, ◌<◌}
+use Prim.Native.Nat.{ℕ, ◌<◌}
 use mathlib.Core.Bool.{Bool, true, false}
 use mathlib.Core.List.{List, [], ◌∷◌, ◌++◌, map}
-use mathlib.Core.Logic.{◌⊎◌, inl, inr}
+use mathlib.Core.Logic.{inl, inr}
 use mathlib.Core.Path.{◌≡◌, refl}
 use native.Mathlib.Omega.{arith}
 use lib.IntN.{ℤ, pos}
@@ -21,7 +21,7 @@ use Rattle.house.specs.Spans.{minutes}
 use Rattle.house.specs.Profile.{Each, Spanned, Clock, Form, Forward, After, Keeps}
 use Rattle.house.specs.Profile as profile
 use Rattle.text_rules.specs.Texts.{records}
-use Rattle.demands.specs.Houses.{AtMost, Less, word, IsHead, IsSpan, StartAfter, Rising, SpanKeeps, Profile}
+use Rattle.demands.specs.Houses.{AtMost, word, IsHead, IsSpan, StartAfter, Rising, SpanKeeps, Profile}
 
 -- ---- a span's record
 

@@ -2,8 +2,6 @@
 use Prim.Native.Nat.{ℕ}
 use mathlib.Core.List.{List, [], ◌∷◌}
 use mathlib.Core.Path.{◌≡◌, refl, ap, fun_ext}
-use Rattle.names.specs.Read.{Reader}
-use Rattle.names.specs.Chain.{chain}
 use Rattle.names.specs.declared.Manner.TheVariants.{First, House}
 use Rattle.records.specs.Items.{item}
 use Rattle.records.specs.declared.Meant.{Meant}
@@ -11,18 +9,17 @@ use Rattle.times.specs.Meanings.{span_of, span_meaning}
 use Rattle.times.specs.Spans.{span_shape, time_item}
 use Rattle.times.specs.Shapes.{RawSpan, Alone, Open, Until}
 use Rattle.days.specs.Weekdays.{weekday_shape, weekday_item}
-use Rattle.records.specs.Words.{Placed}
 use Rattle.items.specs.Kinds.{item_of, item_in}
 use Rattle.items.specs.declared.Kind.{Kind}
 use Rattle.items.specs.declared.Kind.TheVariants.{Years, MonthDays, Weeks, WeekNumbers, Weekdays, LastWeekdays, Holidays, LastHolidays, Times}
 use Rattle.rules.specs.Rows.{small, first, listed, following}
-use Rattle.rules.specs.Pieces.{goes_on, colon, more, end}
-use Rattle.rules.specs.Rules.{Rule, after_opening, rule}
+use Rattle.rules.specs.Pieces.{goes_on, colon, more}
+use Rattle.rules.specs.Rules.{after_opening, rule}
 use Rattle.rules.specs.declared.Next.{Next}
 use Rattle.rules.specs.declared.Next.TheVariants.{Another, Finished}
 use Rattle.rules.specs.declared.Stage.{Stage}
 use Rattle.rules.specs.declared.Stage.TheVariants.{Beginning, Always, Colon, After}
-use Rattle.text_rules.specs.Texts.{parted, more_rules, no_more, rules}
+use Rattle.text_rules.specs.Texts.{parted, more_rules, rules}
 
 span_same : (r : RawSpan) → span_of House r ≡ span_of First r
 span_same (Alone t) = refl

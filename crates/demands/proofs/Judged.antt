@@ -25,7 +25,7 @@ use Rattle.house.specs.Profile.{Each}
 use Rattle.house.specs.declared.Break.{Break}
 use Rattle.house.specs.declared.Break.TheVariants.{Nowhere, At}
 use Rattle.house.proofs.Laws.{first_assoc}
-use Rattle.house.proofs.Places.{Broken, OfItem, OfRule, more_broken, none_broken, judged_broken}
+use Rattle.house.proofs.Places.{Broken, OfItem, more_broken, none_broken}
 use Rattle.text_rules.specs.Texts.{rules, unbroken, judged_rules}
 use Rattle.text_rules.proofs.Moves.{rules_move, rules_ended, rules_move_lem}
 

@@ -7,7 +7,7 @@ use mathlib.Core.Path.{◌≡◌, refl, ap, ◌∙◌}
 use native.Mathlib.Omega.{arith}
 use native.Mathlib.Nat.{zero-add, add-suc}
 use lib.Dec.{ltb, eqb}
-use lib.IntN.{ℤ, pos, ◌+ℤ◌, +ℤ_idl, +ℤ_assoc}
+use lib.IntN.{ℤ, pos, +ℤ_idl, +ℤ_assoc}
 use lib.ListN.{length, get_or, take, length-append}
 use lib.Seq.{set-get_or, take-append-add, drop-append-add}
 use borrow.Author.Tests.{le-ltb}

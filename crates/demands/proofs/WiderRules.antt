@@ -8,7 +8,7 @@ use borrow.Author.Tests.{eqb-true, ne_eqb}
 use lib.Dec.{eqb, ltb}
 use lib.ListN.{length, get_or}
 use Rattle.names.specs.Tests.{within}
-use Rattle.names.specs.Read.{got, none, refused, Reader, follow, nothing, pure, map, when, one, at_end}
+use Rattle.names.specs.Read.{got, none, Reader, follow, nothing, pure, map, when, one, at_end}
 use Rattle.names.specs.Chain.{before, last, chain_in, chain, skip}
 use Rattle.names.specs.Texts.{byte, blank, blanks, comma}
 use Rattle.names.specs.Numbers.{is_digit, digit, up_to, digits, hour}

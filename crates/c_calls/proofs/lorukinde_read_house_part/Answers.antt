@@ -1,5 +1,4 @@
 -- The answer's numbers are small, and so stored as they are.
-use borrow.Author.Rules.{rules}
 use Prim.Native.Nat.{ℕ}
 use mathlib.Core.List.{List}
 use mathlib.Core.Path.{sym, ap, subst}

@@ -1,4 +1,3 @@
-use borrow.Author.Rules.{rules}
 use Rattle.c_calls.proofs.part_numbers.Goals as goal
 
 pub returns : goal.returns

@@ -1,4 +1,3 @@
-use borrow.Author.Rules.{rules}
 use Rattle.feed.proofs.answers.keep_answer.Goals as goal
 
 pub returns : goal.returns

@@ -1,4 +1,3 @@
-use borrow.Author.Rules.{rules}
 use Prim.Native.Nat.{◌*◌}
 use Rattle.feed.proofs.Slots.{four_words}
 use Rattle.feed.proofs.answers.store_bytes.Goals as goal

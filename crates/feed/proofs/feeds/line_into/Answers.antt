@@ -1,4 +1,3 @@
-use borrow.Author.Rules.{rules}
 use Rattle.sheet.specs.Sheets.{sheet_of}
 use Rattle.names.specs.declared.Manner.TheVariants.{First}
 use Rattle.sheet.proofs.Readings.{sheet_whole}

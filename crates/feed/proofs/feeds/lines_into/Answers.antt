@@ -2,16 +2,10 @@
 -- ---- the places of a turn: at the loop's test, after the line's end is found, after the line is read, after its answer is kept, after the next line's place is found
 -- ---- what holds there
 use borrow.Author.Rules.{rules}
-use Prim.Native.Nat.{ℕ, ◌*◌, ◌-◌, ◌≤◌}
 use native.Mathlib.Omega.{arith}
-use mathlib.Core.List.{List}
-use mathlib.Core.Path.{◌≡◌, refl, sym, ◌∙◌}
-use lib.ListN.{length, drop}
-use Rattle.feed.specs.Lines.{lines}
-use Rattle.feed.specs.Feeds.{readings, all_of}
-use Rattle.feed.specs.Into.{feed_into}
+use mathlib.Core.Path.{refl, sym, ◌∙◌}
 use Rattle.feed.proofs.LineLaws.{Turn, turn, end_fits}
-use Rattle.feed.proofs.Readings.{Told, told, up_to, up_begin, up_turn, up_done}
+use Rattle.feed.proofs.Readings.{Told, told, up_begin, up_turn, up_done}
 use Rattle.feed.proofs.feeds.lines_into.Goals as goal
 
 pub loop-at-init : goal.loop-at-init

@@ -1,9 +1,6 @@
 -- Byte by byte.
 use borrow.Author.Rules.{rules}
-use Prim.Native.Nat.{◌-◌, ◌≤◌}
-use mathlib.Core.Path.{◌≡◌, refl, sym, ◌∙◌}
-use lib.ListN.{length}
-use Rattle.feed.specs.Into.{line_end}
+use mathlib.Core.Path.{refl, sym, ◌∙◌}
 use Rattle.feed.proofs.LineLaws.{end_more, end_here, end_last}
 use Rattle.feed.proofs.lines.line_end.Goals as goal
 

@@ -1,10 +1,8 @@
 -- Byte by byte.
-use borrow.Author.Rules.{rules}
 use Prim.Native.Nat.{◌-◌, ◌≤◌}
-use mathlib.Core.Path.{◌≡◌, refl, sym, ◌∙◌}
+use mathlib.Core.Path.{◌≡◌}
 use lib.ListN.{length}
 use Rattle.feed.specs.Into.{line_end}
-use Rattle.feed.proofs.LineLaws.{end_more, end_here, end_last}
 use Rattle.feed.proofs.lines.line_end.Given as goal
 
 abbrev pub invariant-loop-e : goal.invariant-loop-e

@@ -1,10 +1,9 @@
 -- Line by line.
 use borrow.Author.Rules.{rules}
-use Prim.Native.Nat.{◌+◌, ◌-◌, ◌≤◌}
 use native.Mathlib.Omega.{arith}
 use native.Mathlib.Nat.{zero-add}
-use mathlib.Core.Path.{◌≡◌, sym, ap}
-use lib.ListN.{length, drop}
+use mathlib.Core.Path.{sym, ap}
+use lib.ListN.{length}
 use Rattle.feed.specs.Lines.{lines}
 use Rattle.feed.proofs.LineLaws.{Turn, turn, lines_none}
 use Rattle.feed.proofs.lines.lines_in.Goals as goal

@@ -1,12 +1,8 @@
 -- Line by line.
-use borrow.Author.Rules.{rules}
 use Prim.Native.Nat.{◌+◌, ◌-◌, ◌≤◌}
-use native.Mathlib.Omega.{arith}
-use native.Mathlib.Nat.{zero-add}
-use mathlib.Core.Path.{◌≡◌, sym, ap}
+use mathlib.Core.Path.{◌≡◌}
 use lib.ListN.{length, drop}
 use Rattle.feed.specs.Lines.{lines}
-use Rattle.feed.proofs.LineLaws.{Turn, turn, lines_none}
 use Rattle.feed.proofs.lines.lines_in.Given as goal
 
 abbrev pub invariant-loop-at : goal.invariant-loop-at
