@@ -7,14 +7,14 @@ use native.Mathlib.Omega.{arith}
 use borrow.Author.Tests.{eq-eqb, ne_eqb, eqb-true, eqb-false}
 use lib.Dec.{eqb, ltb}
 use lib.ListN.{length, get_or}
-use Rattle.names.specs.Tests.{if◌then◌else◌, within}
+use Rattle.names.specs.Tests.{within}
 use Rattle.names.specs.Read.{Read, got, none, refused, Reader, follow, nothing, pure, unless, when, one, ◌>>◌}
 use Rattle.names.specs.Texts.{byte, blank, blanks}
 use Rattle.names.specs.Numbers.{is_digit, digit, enough, up_to, digits, clock_after, number, year, hour}
 use Rattle.names.specs.declared.Manner.{Manner}
 use Rattle.names.specs.Spellings.{odd, named, spelled}
 use Rattle.names.specs.Names.{Word, word, name, weekday, month, event, easter, holiday, week}
-use Rattle.names.proofs.Laws.{one_is, within_above, within_range, or_none}
+use Rattle.names.proofs.Laws.{one_is, within_above, within_range}
 use Rattle.names.proofs.Search.{no_word, word_letter}
 use Rattle.names.proofs.Odd.{named_got, named_none, spelled_got, spelled_none}
 use Rattle.records.specs.declared.Item.{Item}
