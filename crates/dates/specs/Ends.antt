@@ -1,5 +1,4 @@
 -- Date item: date[offset], then nothing, `+`, or `-` and an end, which is a date or a bare `D`, with [offset] (docs/RULES.md, 2).
-use Rattle.std.specs.Prelude.{ℕ}
 use Rattle.names.specs.Read.{Reader, pure, ◌>>=◌, ◌>>◌, ◌or◌}
 use Rattle.names.specs.Texts.{sign}
 use Rattle.names.specs.Numbers.{short}

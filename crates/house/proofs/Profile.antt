@@ -1,23 +1,22 @@
 -- The judgement finds no break exactly where every rule breaks none of the profile's sentences.
-use Rattle.std.specs.Prelude.{if◌then◌else◌}
-use Prim.Native.Nat.{ℕ, ◌≤◌, ◌<◌}
+use Prim.Native.Nat.{ℕ, ◌≤◌}
 use mathlib.Core.Bool.{Bool, true, false, ◌&&◌, not, true≢false}
 use mathlib.Core.List.{List, [], ◌∷◌}
-use mathlib.Core.Path.{◌≡◌, refl, sym, ap, ◌∙◌}
+use mathlib.Core.Path.{◌≡◌, refl, sym}
 use native.Mathlib.Omega.{arith}
 use lib.Dec.{ltb, leb, eqb}
-use borrow.Author.Tests.{lt-ltb, le-leb, eq-eqb, ltb-true, leb-true, eqb-true}
+use borrow.Author.Tests.{lt-ltb, le-leb, ltb-true, leb-true, eqb-true}
+use Rattle.names.specs.Tests.{if◌then◌else◌}
 use Rattle.records.specs.declared.Time.{Time}
 use Rattle.records.specs.declared.Time.TheVariants.{Fixed, Dawn, Sunrise, Sunset, Dusk}
 use Rattle.records.specs.declared.Repeat.{Repeat}
 use Rattle.records.specs.declared.Repeat.TheVariants.{Never, Every}
 use Rattle.records.specs.declared.Span.{Span}
-use Rattle.records.specs.declared.Item.{Item}
 use Rattle.records.specs.declared.Item.TheVariants.{Years, Months, Dates, Weeks, Weekdays, Holidays, Times}
 use Rattle.records.specs.Words.{Placed}
 use Rattle.rules.specs.Rules.{Rule}
 use Rattle.house.specs.Spans.{is_clock, minutes, is_never, of_clocks, is_plain, allowed, in_order, span_break}
-use Rattle.house.specs.Breaks.{first_of, item_break, end_with, items_break, separator_break, rule_break, rules_break}
+use Rattle.house.specs.Breaks.{first_of, items_break, separator_break, rule_break, rules_break}
 use Rattle.house.specs.Profile.{Each, Spanned, Clock, Form, Forward, After, Rising, Keeps, Exactly}
 use Rattle.house.specs.declared.Break.{Break}
 use Rattle.house.specs.declared.Break.TheVariants.{Nowhere, At}

@@ -8,7 +8,7 @@ use native.Mathlib.Decide.{dec_lt}
 use borrow.Author.Tests.{ltb-true}
 use lib.Dec.{ltb, eqb}
 use lib.ListN.{length, get_or}
-use Rattle.names.specs.Read.{Read, got, none, refused, follow, nothing, pure, when, one}
+use Rattle.names.specs.Read.{got, follow, nothing, pure, when, one}
 use Rattle.names.specs.Chain.{skip}
 use Rattle.names.specs.Texts.{byte, blank, blanks}
 use Rattle.names.proofs.Skips.{skip_more, skip_stop, skip_end}

@@ -6,7 +6,7 @@ use native.Mathlib.Omega.{arith}
 use Rattle.names.specs.Read.{Reader, branch, nothing, pure, refused}
 use Rattle.names.specs.Names as names
 use Rattle.names.specs.declared.Manner.{Manner}
-use Rattle.names.proofs.Local.{Stop, LocalIn, Local, in_any, loose, free, nothing_local, pure_local, here_local, branch_moved, bind_local, then_local, or_local}
+use Rattle.names.proofs.Local.{Stop, LocalIn, Local, in_any, loose, nothing_local, pure_local, here_local, branch_moved, bind_local, then_local, or_local}
 use Rattle.names.proofs.Chains.{step_moves}
 use Rattle.names.proofs.Cut.{blanks_local, blank_local}
 use Rattle.names.proofs.NameCut.{name_local}

@@ -1,9 +1,9 @@
 -- Answers of those who look for no name, one after another.
 use Prim.Native.Nat.{ℕ}
-use mathlib.Core.Bool.{Bool, true, false}
+use mathlib.Core.Bool.{true, false}
 use mathlib.Core.List.{List, [], ◌∷◌}
 use mathlib.Core.Path.{◌≡◌, refl, sym, ap, ◌∙◌, subst}
-use Rattle.names.specs.Read.{Read, got, none, refused, Reader, follow, pure}
+use Rattle.names.specs.Read.{Read, none, Reader, follow, pure}
 use Rattle.names.specs.Names.{word}
 use Rattle.names.proofs.Laws.{or_none}
 use Rattle.records.specs.Seen.{seen_item}

@@ -3,8 +3,9 @@ use Rattle.std.specs.Prelude.{if◌then◌else◌}
 use Prim.Native.Nat.{ℕ}
 use mathlib.Core.Bool.{Bool, true, false, ◌||◌, true≢false}
 use mathlib.Core.List.{List, [], ◌∷◌, ◌++◌}
-use mathlib.Core.Path.{◌≡◌, refl, sym, ap, ◌∙◌}
-use Rattle.names.specs.Read.{Read, got, none, refused, Reader, follow, nothing, pure}
+use mathlib.Core.Path.{◌≡◌, refl, sym, ◌∙◌}
+use Rattle.names.specs.Tests.{if◌then◌else◌}
+use Rattle.names.specs.Read.{Read, got, none, refused, follow, pure}
 use Rattle.names.specs.Numbers.{year}
 use Rattle.names.specs.Names.{word}
 use Rattle.records.specs.declared.Item.{Item}
@@ -14,7 +15,7 @@ use Rattle.items.specs.Kinds.{item_of, item_in}
 use Rattle.items.specs.Sets.{has_kind, picked, yearly, numbered, kinds_of, begins_with}
 use Rattle.items.specs.Seen.{at_place, place_of, with_kind, wished, after_name}
 use Rattle.items.specs.declared.Kind.{Kind}
-use Rattle.items.specs.declared.Kind.TheVariants.{Years, MonthDays, Weeks, WeekNumbers, Weekdays, LastWeekdays, Holidays, LastHolidays, Times}
+use Rattle.items.specs.declared.Kind.TheVariants.{Years, MonthDays, Weeks, Weekdays, LastWeekdays, Holidays, LastHolidays}
 use Rattle.items.specs.declared.Wish.{Wish}
 use Rattle.items.specs.declared.Wish.TheVariants.{As, Not}
 use Rattle.items.proofs.Standing.{none_at, begun_none, begun_is, weekday_none, holiday_none, weeks_none, no_month_day, no_year_item}

@@ -15,7 +15,7 @@ use Rattle.names.specs.Numbers.{is_digit, digit, enough, up_to, digits, clock_af
 use Rattle.names.specs.declared.Manner.{Manner}
 use Rattle.names.specs.Spellings.{odd, named, spelled}
 use Rattle.names.specs.Names.{Word, word, name, weekday, month, event, easter, holiday, week}
-use Rattle.names.proofs.Laws.{one_is, within_above, within_range, or_none}
+use Rattle.names.proofs.Laws.{one_is, within_above, within_range}
 use Rattle.names.proofs.Search.{no_word, word_letter}
 use Rattle.names.proofs.Odd.{named_got, named_none, spelled_got, spelled_none}
 use Rattle.records.specs.declared.Item.{Item}

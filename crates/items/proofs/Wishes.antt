@@ -1,7 +1,7 @@
 -- As what an item that begins with a name is wanted: of the kinds of a set, only those that begin so count.
 use Rattle.std.specs.Prelude.{if◌then◌else◌}
 use Prim.Native.Nat.{ℕ}
-use mathlib.Core.Bool.{Bool, true, false, ◌||◌}
+use mathlib.Core.Bool.{Bool, true, false}
 use mathlib.Core.List.{List, [], ◌∷◌}
 use mathlib.Core.Path.{◌≡◌, refl, ap, ◌∙◌}
 use borrow.Author.Tests.{ne_eqb}
@@ -11,7 +11,7 @@ use Rattle.items.specs.Seen.{wish_if, wished}
 use Rattle.items.specs.declared.Kind.{Kind}
 use Rattle.items.specs.declared.Kind.TheVariants.{Years, MonthDays, Weeks, WeekNumbers, Weekdays, LastWeekdays, Holidays, LastHolidays, Times}
 use Rattle.items.specs.declared.Wish.{Wish}
-use Rattle.items.specs.declared.Wish.TheVariants.{As, Not}
+use Rattle.items.specs.declared.Wish.TheVariants.{Not}
 
 module _ (n set : ℕ) where
   -- what is wished of some kinds

@@ -1,5 +1,5 @@
 -- The kinds of items in a rule, and an item of one of several kinds (docs/RULES.md, 2).
-use Rattle.std.specs.Prelude.{ℕ, List, [], ◌∷◌}
+use Rattle.std.specs.Prelude.{List, [], ◌∷◌}
 use Rattle.names.specs.Read.{Reader, branch, nothing, pure, here, ◌>>=◌, ◌>>◌}
 use Rattle.names.specs.Texts.{blank}
 use Rattle.names.specs.Names.{name, week}

@@ -18,11 +18,11 @@ use Rattle.names.specs.Texts.{byte, bytes}
 use Rattle.names.specs.Refusals.{empty_rule, ill_formed_comment}
 use Rattle.names.specs.Names as names
 use Rattle.names.proofs.Local.{Tail as Tails, Follows, stop_end, stop_at, Side, At, compare_add, look_local, Ended, Stop, moved, keep, LocalFrom, LocalIn, Local, in_any, past_one, narrow, loose}
-use Rattle.names.proofs.Local.{free, by, nothing_local, pure_local, refuse_local, here_local, here_then, branch_moved, bind_local, then_local, then_moved, map_local, or_local}
+use Rattle.names.proofs.Local.{free, nothing_local, pure_local, refuse_local, here_local, here_then, branch_moved, bind_local, then_local, then_moved, map_local, or_local}
 use Rattle.names.proofs.Local.{maybe_local, inner_local, quote_local, ahead_local, only_local}
 use Rattle.names.proofs.Ended.{byte_ended, at_end_ended}
 use Rattle.names.proofs.Chains.{step_moves, chain_moves, chain_local, chain_takes, many_local}
-use Rattle.names.proofs.Cut.{byte_local, blanks_local, blank_local, comma_local}
+use Rattle.names.proofs.Cut.{byte_local, blank_local, comma_local}
 use Rattle.names.proofs.NameCut.{plain, all_of_local}
 use Rattle.names.proofs.Odd.{named_local}
 use Rattle.names.specs.declared.Manner.{Manner}
@@ -37,7 +37,7 @@ use Rattle.utf8.proofs.Cut.{letters_local}
 use Rattle.rules.specs.Comments.{comment_of, no_comment, closed, ill_formed, comment, comment_apart}
 use Rattle.rules.specs.Modifiers.{tail_of, with_comment, modifier}
 use Rattle.rules.specs.Rows.{small, first, listed, following, is_wide}
-use Rattle.rules.specs.Pieces.{empty, item_from, goes_on, after_colon, colon_sign, colon, more, plain_end, end}
+use Rattle.rules.specs.Pieces.{empty, item_from, goes_on, colon_sign, colon, more, plain_end, end}
 use Rattle.rules.specs.Rules.{opening_of, always, wide_comment, opening, wins, tail_warnings, items_warnings, Rule, rule_of, after_opening, rule}
 use Rattle.rules.specs.Separators.{comma_blank, bars, separator, next, stop, rule_end}
 use Rattle.records.specs.declared.Comment.{Comment}

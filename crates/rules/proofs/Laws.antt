@@ -11,19 +11,15 @@ use lib.Dec.{ltb, eqb}
 use lib.ListN.{length, get_or}
 use Rattle.names.specs.Read.{Read, got, none, refused, Reader, follow, branch, nothing, pure, when, one}
 use Rattle.names.specs.Chain.{skip}
-use Rattle.names.specs.Texts.{byte, blanks, all_of}
+use Rattle.names.specs.Texts.{byte, all_of}
 use Rattle.names.proofs.Local.{Ended, keep, Local, past, map_local}
 use Rattle.names.proofs.Ended.{one_ended}
 use Rattle.names.proofs.Chains.{many_local}
 use Rattle.names.proofs.Laws.{one_got, one_other, one_past}
-use Rattle.names.proofs.Skips.{skip_more, skip_stop, skip_end, skip_sure}
-use Rattle.items.specs.declared.Kind.{Kind}
-use Rattle.items.specs.declared.Kind.TheVariants.{Years, MonthDays, Weeks, WeekNumbers, Weekdays, LastWeekdays, Holidays, LastHolidays, Times}
-use Rattle.items.specs.contracts.Kind.{the_type as kind-type}
+use Rattle.names.proofs.Skips.{skip_more, skip_stop, skip_end}
 use Rattle.rules.specs.Comments.{no_comment}
 use Rattle.rules.specs.Comments as comments
 use Rattle.rules.specs.Modifiers.{tail_of}
-use Rattle.rules.specs.Rows.{is_wide}
 use Rattle.rules.specs.Pieces.{plain_end}
 use Rattle.rules.specs.Seen.{seen_comment}
 use Rattle.records.specs.declared.Comment.{Comment}
@@ -31,8 +27,6 @@ use Rattle.rules.specs.declared.CommentRead.{CommentRead}
 use Rattle.rules.specs.declared.CommentRead.TheVariants as comment
 use Rattle.rules.specs.declared.Stage.{Stage}
 use Rattle.rules.specs.declared.Stage.TheVariants.{Beginning, Always, Colon, After}
-use Rattle.rules.specs.contracts.CommentRead.{the_type as comment-type}
-use Rattle.rules.specs.contracts.Stage.{the_type as stage-type}
 
 -- a test of two numbers, either way round
 pub eqb_swap : (a b : ℕ) → eqb a b ≡ eqb b a

@@ -1,10 +1,10 @@
 -- The places of a rule's items rise strictly, and are places of the rule.
-use Prim.Native.Nat.{ℕ, zero, suc, ◌≤◌, ◌<◌}
+use Prim.Native.Nat.{ℕ, zero, suc, ◌≤◌}
 use mathlib.Core.List.{List, [], ◌∷◌}
 use mathlib.Core.Path.{◌≡◌, refl, subst}
 use native.Mathlib.Omega.{arith}
 use lib.ListN.{length}
-use Rattle.names.specs.Read.{Read, got, none, refused, Reader, follow, pure, map}
+use Rattle.names.specs.Read.{Read, got, none, refused, follow, map}
 use Rattle.names.specs.Chain.{before, last, chain_in, chain}
 use Rattle.names.specs.Texts.{comma}
 use Rattle.names.proofs.Local.{past, past_one}
@@ -24,7 +24,7 @@ use Rattle.rules.specs.declared.Opening.{Opening}
 use Rattle.rules.specs.declared.Stage.{Stage}
 use Rattle.rules.specs.declared.Stage.TheVariants.{Beginning, Always, Colon, After}
 use Rattle.rules.specs.declared.Tail.{Tail}
-use Rattle.rules.proofs.Cut.{colon_sign_local, more_local, end_local, opening_local, rule_local}
+use Rattle.rules.proofs.Cut.{colon_sign_local, end_local, opening_local, rule_local}
 
 -- an item that is read from i up to j, and the stage after it
 abbrev Next : ℕ → Placed × Stage → ℕ → Type 0

@@ -7,7 +7,8 @@ use mathlib.Core.Path.{◌≡◌, subst}
 use native.Mathlib.Omega.{arith}
 use lib.Dec.{eqb}
 use lib.ListN.{length}
-use Rattle.names.specs.Read.{Read, got, follow, branch, nothing, pure, refuse, map, ◌>>◌, ◌or◌}
+use Rattle.names.specs.Tests.{if◌then◌else◌}
+use Rattle.names.specs.Read.{Read, got, follow, branch, nothing, pure, refuse, map, ◌or◌}
 use Rattle.names.specs.Texts.{byte, bytes, blank, blanks, all_of}
 use Rattle.names.specs.Spellings.{named}
 use Rattle.names.specs.Names as names

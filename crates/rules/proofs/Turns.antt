@@ -1,15 +1,15 @@
 -- A piece of a rule, by what stands where the rule goes on.
-use Prim.Native.Nat.{ℕ, ◌≤◌}
+use Prim.Native.Nat.{ℕ}
 use mathlib.Core.Bool.{Bool, true, false, ◌||◌}
 use mathlib.Core.List.{List, []}
 use mathlib.Core.Logic.{◌⊎◌, inl, inr}
-use mathlib.Core.Path.{◌≡◌, refl, sym, ap, ◌∙◌}
+use mathlib.Core.Path.{◌≡◌, refl, ap, ◌∙◌}
 use native.Mathlib.Omega.{arith}
-use borrow.Author.Tests.{eq-eqb, ne_eqb}
+use borrow.Author.Tests.{ne_eqb}
 use lib.Dec.{eqb}
 use lib.ListN.{length, get_or}
-use Rattle.names.specs.Read.{Read, got, none, refused, Reader, follow, branch, nothing, pure, refuse, map, only, at_end, ◌>>◌, ◌or◌}
-use Rattle.names.specs.Texts.{byte, blank, blanks, comma}
+use Rattle.names.specs.Read.{Read, got, none, refused, Reader, follow, branch, nothing, pure, refuse, map, only, at_end, ◌or◌}
+use Rattle.names.specs.Texts.{byte, blank, comma}
 use Rattle.names.specs.Names.{word}
 use Rattle.names.specs.Spellings.{odd}
 use Rattle.names.specs.Refusals.{empty_rule}
@@ -17,17 +17,16 @@ use Rattle.names.specs.Names as names
 use Rattle.names.proofs.Laws.{one_is}
 use Rattle.names.proofs.Search.{word_letter}
 use Rattle.names.proofs.Odd.{named_got, named_none}
-use Rattle.names.proofs.Skips.{map_map}
 use Rattle.names.specs.declared.Manner.{Manner}
 use Rattle.items.specs.Musts.{missing, must}
 use Rattle.records.specs.Words.{Placed}
 use Rattle.items.specs.Kinds.{after_blank, item_in}
 use Rattle.items.specs.declared.Kind.{Kind}
-use Rattle.items.proofs.Sure.{Sure, or_sure, sure_then, sure_or, must_sure, missing_apart}
+use Rattle.items.proofs.Sure.{Sure, sure_then, sure_or, must_sure, missing_apart}
 use Rattle.items.proofs.Standing.{name_is, name_other, name_none}
 use Rattle.rules.specs.Comments.{no_comment, comment, comment_apart}
 use Rattle.rules.specs.Modifiers.{tail_of, with_comment, modifier}
-use Rattle.rules.specs.Rows.{small, first, listed, following, is_wide}
+use Rattle.rules.specs.Rows.{small, first, listed, following}
 use Rattle.rules.specs.Pieces.{empty, item_from, goes_on, after_colon, colon_sign, colon, more, plain_end, end, piece}
 use Rattle.names.specs.declared.Cursor.{Cursor}
 use Rattle.items.specs.Sets.{kinds_of}

@@ -1,6 +1,6 @@
 -- Modifier: `open`, `closed`, `off` or `unknown`, optionally both blank and comment; or a comment alone (open) (docs/RULES.md, 1).
 use Rattle.std.specs.Prelude.{ℕ, Bool, false}
-use Rattle.names.specs.Read.{Reader, pure, ◌>>=◌, ◌>>◌, ◌or◌, maybe}
+use Rattle.names.specs.Read.{Reader, pure, ◌>>=◌, ◌or◌, maybe}
 use Rattle.names.specs.Names.{modifier as modifierName}
 use Rattle.names.specs.Spellings.{named}
 use Rattle.rules.specs.Comments.{no_comment, comment, comment_apart}

@@ -1,6 +1,6 @@
 -- What parts a rule from the next (docs/RULES.md, 1).
 use Rattle.std.specs.Prelude.{◌||◌, eqb, length, get_or}
-use Rattle.names.specs.Read.{Reader, pure, ◌>>=◌, ◌>>◌, ◌or◌, only, ahead, at_end}
+use Rattle.names.specs.Read.{Reader, pure, ◌>>◌, ◌or◌, only, ahead, at_end}
 use Rattle.names.specs.Texts.{sign}
 use Rattle.rules.specs.declared.Next.{Next}
 use Rattle.rules.specs.declared.Next.TheVariants.{Another, Finished}

@@ -1,15 +1,15 @@
 -- The move law: the rules of a text that stands after u are its rules, with their places moved.
 use Prim.Native.Nat.{ℕ, ◌+◌, ◌≤◌, ◌<◌}
 use mathlib.Core.List.{List, [], ◌++◌, append-nil}
-use mathlib.Core.Bool.{Bool, false}
-use mathlib.Core.Path.{◌≡◌, refl, ap, ◌∙◌}
+use mathlib.Core.Bool.{false}
+use mathlib.Core.Path.{◌≡◌}
 use native.Mathlib.Omega.{arith}
 use lib.ListN.{length}
 use Rattle.names.specs.declared.Manner.{Manner}
-use Rattle.names.specs.Read.{Read, got, none, refused, Reader, branch, nothing, pure, map}
+use Rattle.names.specs.Read.{Reader, branch, nothing, pure, map}
 use Rattle.names.specs.Chain.{before, last, chain}
 use Rattle.names.specs.Texts.{blanks}
-use Rattle.names.proofs.Local.{Tail, Ended, stop_end, Ends, moved, keep, LocalIn, Local, in_any, takes as ends-later, narrow, loose, nothing_local, pure_local, bind_local, then_local, then_moved, or_local}
+use Rattle.names.proofs.Local.{Ended, stop_end, Ends, moved, keep, LocalIn, Local, in_any, takes as ends-later, narrow, loose, nothing_local, pure_local, bind_local, then_local, then_moved, or_local}
 use Rattle.names.proofs.Chains.{step_moves, chain_moves, chain_local}
 use Rattle.names.proofs.Fuel.{chain_is}
 use Rattle.names.proofs.Cut.{blanks_local}

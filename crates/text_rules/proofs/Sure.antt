@@ -4,7 +4,7 @@ use mathlib.Core.List.{List}
 use mathlib.Core.Path.{◌≡◌}
 use lib.Dec.{eqb}
 use Rattle.names.specs.declared.Manner.{Manner}
-use Rattle.names.specs.Read.{Read, got, none, refused, Reader, pure, map}
+use Rattle.names.specs.Read.{none, Reader, pure, map}
 use Rattle.names.specs.Texts.{blanks}
 use Rattle.names.proofs.Skips.{skip_sure}
 use Rattle.items.specs.Musts.{must}

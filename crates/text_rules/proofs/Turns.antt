@@ -35,7 +35,6 @@ use Rattle.text_rules.specs.Seen.{seen_rule, seen_rule_into, seen_parted}
 use Rattle.text_rules.proofs.Moves.{takes, must_next, rules_are}
 use Rattle.names.proofs.Upto.{Upto, upto_then}
 use Rattle.text_rules.proofs.Takes.{rule_takes}
-use Rattle.text_rules.proofs.Fills.{map_same}
 
 -- ---- records
 

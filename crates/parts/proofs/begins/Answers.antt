@@ -1,4 +1,3 @@
-use borrow.Author.Rules.{rules}
 use Rattle.parts.proofs.Laws.{begins_first, begins_past, begins_after, begins_not_lem}
 use Rattle.parts.proofs.begins.Goals as goal
 

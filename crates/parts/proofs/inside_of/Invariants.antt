@@ -1,11 +1,7 @@
-use Prim.Native.Nat.{◌-◌, ◌≤◌, ◌<◌}
-use borrow.Author.Rules.{rules}
-use native.Mathlib.Omega.{arith}
-use native.Mathlib.Numerals.{add-one}
-use mathlib.Core.Path.{◌≡◌, sym, ap, ◌∙◌}
-use lib.ListN.{length, get_or, take}
-use Rattle.names.specs.Quotes.{flips, inside_of}
-use Rattle.parts.proofs.Laws.{inside_none, inside_next}
+use Prim.Native.Nat.{◌-◌, ◌≤◌}
+use mathlib.Core.Path.{◌≡◌}
+use lib.ListN.{take}
+use Rattle.names.specs.Quotes.{inside_of}
 use Rattle.parts.proofs.inside_of.Given as goal
 
 -- what the bytes before k made

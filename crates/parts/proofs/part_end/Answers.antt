@@ -1,9 +1,5 @@
-use Prim.Native.Nat.{◌+◌, ◌-◌}
-use borrow.Author.Rules.{rules}
 use native.Mathlib.Omega.{arith}
-use mathlib.Core.Path.{◌≡◌, sym, ◌∙◌}
-use lib.ListN.{length, drop}
-use Rattle.parts.specs.Parts.{part_in, part_end}
+use mathlib.Core.Path.{sym, ◌∙◌}
 use Rattle.parts.proofs.Laws.{part_begin, part_stop, part_quoted, part_more, part_done}
 use Rattle.parts.proofs.part_end.Goals as goal
 

@@ -1,10 +1,7 @@
 use Prim.Native.Nat.{◌+◌, ◌-◌}
-use borrow.Author.Rules.{rules}
-use native.Mathlib.Omega.{arith}
-use mathlib.Core.Path.{◌≡◌, sym, ◌∙◌}
+use mathlib.Core.Path.{◌≡◌}
 use lib.ListN.{length, drop}
 use Rattle.parts.specs.Parts.{part_in, part_end}
-use Rattle.parts.proofs.Laws.{part_begin, part_stop, part_quoted, part_more, part_done}
 use Rattle.parts.proofs.part_end.Given as goal
 
 -- what is left of the part from here ends where all of it does

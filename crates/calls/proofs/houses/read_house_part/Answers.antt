@@ -1,5 +1,4 @@
 -- The reading in the house's manner.
-use borrow.Author.Rules.{rules}
 use Rattle.calls.proofs.houses.read_house_part.Goals as goal
 
 pub returns : goal.returns

@@ -1,4 +1,3 @@
-use borrow.Author.Rules.{rules}
 use mathlib.Core.List.{[]}
 use lib.ListN.{length}
 use Rattle.sheet.specs.Sheets.{words_in}

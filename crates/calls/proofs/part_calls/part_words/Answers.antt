@@ -1,4 +1,3 @@
-use borrow.Author.Rules.{rules}
 use mathlib.Core.List.{[]}
 use lib.ListN.{length}
 use Rattle.sheet.specs.PartReadings.{part_by, part_reading_by}

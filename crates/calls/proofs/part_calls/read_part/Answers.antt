@@ -1,4 +1,3 @@
-use borrow.Author.Rules.{rules}
 use Rattle.calls.proofs.part_calls.read_part.Goals as goal
 
 pub returns : goal.returns

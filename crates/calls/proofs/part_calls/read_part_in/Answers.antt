@@ -1,4 +1,3 @@
-use borrow.Author.Rules.{rules}
 use mathlib.Core.Path.{sym, ◌∙◌}
 use Rattle.calls.specs.Editions.{part_reading_in}
 use Rattle.calls.proofs.part_calls.read_part_in.Goals as goal

@@ -1,4 +1,3 @@
-use borrow.Author.Rules.{rules}
 use Rattle.calls.proofs.sheet_calls.read_sheet_bytes.Goals as goal
 
 pub returns : goal.returns

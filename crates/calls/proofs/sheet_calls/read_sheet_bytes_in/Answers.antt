@@ -1,4 +1,3 @@
-use borrow.Author.Rules.{rules}
 use mathlib.Core.Path.{sym, ◌∙◌}
 use Rattle.calls.specs.Editions.{sheet_reading_bytes_in}
 use Rattle.calls.proofs.sheet_calls.read_sheet_bytes_in.Goals as goal

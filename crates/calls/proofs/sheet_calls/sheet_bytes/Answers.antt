@@ -1,4 +1,3 @@
-use borrow.Author.Rules.{rules}
 use mathlib.Core.List.{[]}
 use lib.ListN.{length}
 use Rattle.sheet.specs.Sheets.{sheet_by, sheet_reading_bytes_by, words_in}

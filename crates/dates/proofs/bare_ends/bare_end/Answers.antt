@@ -1,4 +1,3 @@
-use borrow.Author.Rules.{rules}
 use Rattle.dates.specs.BareEnds.{bare_end}
 use Rattle.dates.proofs.Good.{from_small}
 use Rattle.dates.proofs.bare_ends.bare_end.Goals as goal

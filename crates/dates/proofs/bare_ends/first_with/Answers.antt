@@ -1,7 +1,4 @@
-use borrow.Author.Rules.{rules}
-use mathlib.Core.Bool.{true, false}
-use mathlib.Core.Path.{◌≡◌, sym, ◌∙◌}
-use Rattle.calendar.specs.Calendar.{is_day}
+use mathlib.Core.Path.{sym, ◌∙◌}
 use Rattle.dates.specs.BareEnds.{first_with}
 use Rattle.dates.proofs.bare_ends.first_with.Goals as goal
 

@@ -1,4 +1,3 @@
-use borrow.Author.Rules.{rules}
 use borrow.Author.Tests.{eq-eqb, ne_eqb}
 use Rattle.dates.specs.Dates.{day_after}
 use Rattle.dates.proofs.dates.day_after.Goals as goal

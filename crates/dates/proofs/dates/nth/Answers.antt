@@ -1,7 +1,5 @@
-use borrow.Author.Rules.{rules}
 use mathlib.Core.Path.{ap}
-use Rattle.names.proofs.Facts.{Said, said}
-use lib.IntN.{ℤ}
+use Rattle.names.proofs.Facts.{said}
 use Rattle.dates.specs.Seen.{seen_nth}
 use Rattle.dates.specs.Dates.{nth}
 use Rattle.dates.proofs.dates.nth.Goals as goal

@@ -1,4 +1,3 @@
-use borrow.Author.Rules.{rules}
 use mathlib.Core.Path.{ap}
 use Rattle.names.proofs.Facts.{Called, called, Went, went, Said, said}
 use lib.IntN.{ℤ}

@@ -1,4 +1,3 @@
-use borrow.Author.Rules.{rules}
 use Rattle.dates.specs.Ends.{dates_after}
 use Rattle.dates.proofs.ends.dates_after.Goals as goal
 

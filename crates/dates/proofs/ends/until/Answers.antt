@@ -1,9 +1,7 @@
-use borrow.Author.Rules.{rules}
 use mathlib.Core.Path.{ap}
-use Rattle.names.proofs.Facts.{Said, said}
+use Rattle.names.proofs.Facts.{said}
 use Rattle.dates.specs.Seen.{seen_date}
 use Rattle.dates.specs.Ends.{until_date, until}
-use Rattle.dates.specs.declared.RawDate.{RawDate}
 use Rattle.dates.proofs.ends.until.Goals as goal
 
 pub returns-in-Got : goal.returns-in-Got

@@ -1,7 +1,6 @@
 use mathlib.Core.Path.{◌≡◌, sym, subst}
 use Rattle.records.specs.declared.Day.{Day}
 use Rattle.dates.specs.Meanings as meanings
-use borrow.Author.Rules.{rules}
 use mathlib.Core.Path.{◌∙◌}
 use Rattle.dates.proofs.meanings.bare.Goals as goal
 

@@ -1,7 +1,5 @@
-use borrow.Author.Rules.{rules}
-use mathlib.Core.Bool.{true}
-use mathlib.Core.Path.{◌≡◌, sym, ◌∙◌}
-use Rattle.dates.specs.Meanings.{good_dates, date_meaning}
+use mathlib.Core.Path.{sym, ◌∙◌}
+use Rattle.dates.specs.Meanings.{date_meaning}
 use Rattle.dates.proofs.Good.{Good, dates_good}
 use Rattle.dates.proofs.meanings.date_meaning.Goals as goal
 

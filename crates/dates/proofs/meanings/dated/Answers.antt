@@ -1,4 +1,3 @@
-use borrow.Author.Rules.{rules}
 use Rattle.dates.proofs.meanings.dated.Goals as goal
 
 pub returns : goal.returns

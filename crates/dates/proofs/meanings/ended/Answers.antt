@@ -1,9 +1,8 @@
 use Rattle.records.specs.declared.DateOffset.{DateOffset}
 use Rattle.records.specs.declared.Odd.{Odd}
-use mathlib.Core.Path.{◌≡◌, sym, subst, ◌∙◌}
+use mathlib.Core.Path.{◌≡◌, sym, subst}
 use Rattle.dates.specs.declared.RawEnd.{RawEnd}
 use Rattle.dates.specs.Meanings as meanings
-use borrow.Author.Rules.{rules}
 use Rattle.dates.proofs.meanings.ended.Goals as goal
 
 pub returns-in-Nothing : goal.returns-in-Nothing

@@ -1,4 +1,3 @@
-use borrow.Author.Rules.{rules}
 use Rattle.records.proofs.Laws.{half_fits}
 use Rattle.dates.proofs.meanings.good_day.Goals as goal
 

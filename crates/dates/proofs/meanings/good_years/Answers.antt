@@ -1,4 +1,3 @@
-use borrow.Author.Rules.{rules}
 use Rattle.dates.proofs.meanings.good_years.Goals as goal
 
 pub returns-in-Given : goal.returns-in-Given

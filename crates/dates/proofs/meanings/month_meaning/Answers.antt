@@ -1,4 +1,3 @@
-use borrow.Author.Rules.{rules}
 use mathlib.Core.Path.{sym, ◌∙◌}
 use Rattle.dates.specs.Meanings.{month_meaning}
 use Rattle.dates.proofs.meanings.month_meaning.Goals as goal

@@ -1,4 +1,3 @@
-use borrow.Author.Rules.{rules}
 use Rattle.records.proofs.Anywhere.{meant_is}
 use Rattle.dates.specs.Dates.{raw_date}
 use Rattle.dates.specs.Ends.{dates_after}

@@ -1,4 +1,3 @@
-use borrow.Author.Rules.{rules}
 use Rattle.names.proofs.Facts.{Called, called, Went, went}
 use Rattle.dates.specs.MonthDays.{last_month}
 use Rattle.dates.proofs.month_days.month_after.Goals as goal

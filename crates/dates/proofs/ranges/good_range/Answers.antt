@@ -1,4 +1,3 @@
-use borrow.Author.Rules.{rules}
 use mathlib.Core.Path.{sym, ◌∙◌}
 use Rattle.dates.specs.Ranges.{good_range}
 use Rattle.dates.proofs.ranges.good_range.Goals as goal

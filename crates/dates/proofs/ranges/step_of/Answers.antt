@@ -1,4 +1,3 @@
-use borrow.Author.Rules.{rules}
 use borrow.Author.Tests.{lt-ltb, le-ltb}
 use Rattle.dates.specs.Ranges.{step_of}
 use Rattle.dates.proofs.ranges.step_of.Goals as goal

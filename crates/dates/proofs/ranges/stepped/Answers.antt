@@ -1,4 +1,3 @@
-use borrow.Author.Rules.{rules}
 use Rattle.names.proofs.Facts.{Was, was, Went, went}
 use Rattle.dates.specs.Ranges.{stepped}
 use Rattle.dates.proofs.ranges.stepped.Goals as goal

@@ -1,10 +1,8 @@
-use borrow.Author.Rules.{rules}
 use mathlib.Core.Path.{ap}
-use Rattle.names.proofs.Facts.{Said, said}
+use Rattle.names.proofs.Facts.{said}
 use Rattle.records.proofs.Anywhere.{meant_is}
 use Rattle.dates.specs.Seen.{seen_range}
 use Rattle.dates.specs.Weeks.{week_shape, week_meaning, week_item}
-use Rattle.dates.specs.declared.RawRange.{RawRange}
 use Rattle.dates.proofs.weeks.week_item.Goals as goal
 
 pub returns-in_default : goal.returns-in_default

@@ -1,8 +1,5 @@
-use borrow.Author.Rules.{rules}
 use borrow.Author.Tests.{lt-ltb, le-ltb}
-use mathlib.Core.Bool.{true}
-use mathlib.Core.Path.{◌≡◌, sym, ◌∙◌}
-use Rattle.dates.specs.Ranges.{good_range}
+use mathlib.Core.Path.{sym, ◌∙◌}
 use Rattle.dates.specs.Weeks.{week_meaning}
 use Rattle.dates.proofs.weeks.week_meaning.Goals as goal
 

@@ -1,4 +1,3 @@
-use borrow.Author.Rules.{rules}
 use mathlib.Core.Path.{ap}
 use Rattle.names.proofs.Facts.{Went, went, Said, said}
 use Rattle.dates.specs.Seen.{seen_range}

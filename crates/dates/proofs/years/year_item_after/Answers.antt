@@ -1,4 +1,3 @@
-use borrow.Author.Rules.{rules}
 use Rattle.records.proofs.Anywhere.{meant_is}
 use Rattle.dates.specs.Years.{year_after, year_meaning, year_item_after}
 use Rattle.dates.proofs.years.year_item_after.Goals as goal

@@ -1,9 +1,6 @@
-use borrow.Author.Rules.{rules}
 use borrow.Author.Tests.{lt-ltb, le-ltb}
 use native.Mathlib.Omega.{arith}
-use mathlib.Core.Bool.{true}
-use mathlib.Core.Path.{◌≡◌, sym, ◌∙◌}
-use Rattle.dates.specs.Ranges.{good_range}
+use mathlib.Core.Path.{sym, ◌∙◌}
 use Rattle.dates.specs.Years.{year_meaning}
 use Rattle.dates.proofs.Laws.{step_small}
 use Rattle.dates.proofs.years.year_meaning.Goals as goal

@@ -1,14 +1,7 @@
-use borrow.Author.Rules.{rules}
-use Prim.Native.Nat.{ℕ, ◌-◌}
-use mathlib.Core.List.{List}
-use mathlib.Core.Path.{◌≡◌, refl, ap, ◌∙◌}
+use mathlib.Core.Path.{refl, ap, ◌∙◌}
 use native.Mathlib.Omega.{arith}
-use lib.ListN.{length}
-use Rattle.names.specs.Read.{map}
-use Rattle.names.specs.Chain.{many}
 use Rattle.names.proofs.Facts.{Said, said}
 use Rattle.names.proofs.Local.{past_one}
-use Rattle.days.specs.Entries.{next_entry, marked_all}
 use Rattle.days.specs.Seen.{seen_entry}
 use Rattle.days.specs.declared.Entry.{Entry}
 use Rattle.days.proofs.Cut.{next_entry_alike}

@@ -1,4 +1,3 @@
-use borrow.Author.Rules.{rules}
 use Rattle.names.proofs.Facts.{went}
 use Rattle.days.specs.Entries.{next_entry}
 use Rattle.days.proofs.entries.next_entry.Goals as goal

@@ -1,4 +1,3 @@
-use borrow.Author.Rules.{rules}
 use Rattle.days.proofs.entries.set.Goals as goal
 
 pub returns-then-old : goal.returns-then-old

@@ -1,4 +1,3 @@
-use borrow.Author.Rules.{rules}
 use Rattle.days.specs.Entries.{set_all}
 use Rattle.days.proofs.entries.set_all.Goals as goal
 

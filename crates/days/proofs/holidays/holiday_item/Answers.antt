@@ -1,9 +1,8 @@
-use borrow.Author.Rules.{rules}
 use mathlib.Core.Path.{◌∙◌}
 use native.Mathlib.Omega.{arith}
 use Rattle.names.specs.Names.{holiday}
 use Rattle.names.specs.Names as names
-use Rattle.names.proofs.Facts.{Was, was}
+use Rattle.names.proofs.Facts.{was}
 use Rattle.days.specs.Holidays.{holiday_after, holiday_shape, holiday_meaning, holiday_item, holiday_item_after}
 use Rattle.records.proofs.Anywhere.{item_after_lem}
 use Rattle.days.proofs.holidays.holiday_item.Goals as goal

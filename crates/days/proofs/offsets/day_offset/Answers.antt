@@ -1,4 +1,3 @@
-use borrow.Author.Rules.{rules}
 use mathlib.Core.Bool.{Bool}
 use mathlib.Core.Path.{ap}
 use Rattle.names.proofs.Facts.{Was, was, Went, went, Said, said}

@@ -1,4 +1,3 @@
-use borrow.Author.Rules.{rules}
 use borrow.Author.Tests.{le-leb, lt-leb}
 use Rattle.records.proofs.Laws.{half_fits}
 use Rattle.days.proofs.offsets.days_of.Goals as goal

@@ -1,4 +1,3 @@
-use borrow.Author.Rules.{rules}
 use Rattle.names.proofs.Facts.{Went, went}
 use Rattle.days.specs.Offsets.{plus_or_minus}
 use Rattle.days.proofs.offsets.plus_or_minus.Goals as goal

@@ -1,5 +1,4 @@
-use borrow.Author.Rules.{rules}
-use Rattle.names.proofs.Facts.{Called, called}
+use Rattle.names.proofs.Facts.{called}
 use Rattle.days.proofs.weekdays.any_last.Goals as goal
 
 pub returns-in-Got : goal.returns-in-Got

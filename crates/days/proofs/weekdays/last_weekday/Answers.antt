@@ -1,6 +1,5 @@
-use borrow.Author.Rules.{rules}
 use native.Mathlib.Omega.{arith}
-use Rattle.names.proofs.Facts.{Went, went}
+use Rattle.names.proofs.Facts.{went}
 use Rattle.days.specs.Weekdays.{last_weekday}
 use Rattle.days.proofs.weekdays.last_weekday.Goals as goal
 

@@ -1,10 +1,9 @@
 use Prim.Native.Nat.{ℕ}
 use mathlib.Core.List.{List}
 use mathlib.Core.Path.{◌≡◌, ap}
-use borrow.Author.Rules.{rules}
 use Rattle.names.specs.Read.{none}
 use Rattle.names.specs.Texts.{byte}
-use Rattle.names.proofs.Facts.{Called, called, went, said}
+use Rattle.names.proofs.Facts.{called, went, said}
 use Rattle.days.specs.Weekdays.{Weekday, bracketed, until_weekday, with_entries, narrow_after}
 use Rattle.days.specs.Seen.{seen_weekdays}
 use Rattle.days.proofs.weekdays.narrow_after.Goals as goal

@@ -1,5 +1,4 @@
 -- Only the second edition takes more shapes.
-use borrow.Author.Rules.{rules}
 use mathlib.Core.Path.{◌≡◌}
 use Rattle.names.proofs.Manners.{not_second}
 use Rattle.names.specs.Read.{map}

@@ -1,4 +1,3 @@
-use borrow.Author.Rules.{rules}
 use mathlib.Core.Path.{◌∙◌}
 use native.Mathlib.Omega.{arith}
 use Rattle.names.specs.Names.{weekday}
@@ -6,7 +5,7 @@ use Rattle.names.specs.Spellings.{named}
 use Rattle.names.proofs.Local.{past_one}
 use Rattle.names.proofs.NameCut.{name_local}
 use Rattle.names.proofs.Odd.{named_got, named_none}
-use Rattle.names.proofs.Facts.{Was, was}
+use Rattle.names.proofs.Facts.{was}
 use Rattle.days.specs.Weekdays.{weekday_after, weekday_shape, weekday_meaning, weekday_item, weekday_item_after}
 use Rattle.records.proofs.Anywhere.{item_after_lem}
 use Rattle.days.proofs.weekdays.weekday_item.Goals as goal

@@ -1,12 +1,10 @@
 use Prim.Native.Nat.{ℕ}
 use mathlib.Core.List.{List, []}
 use mathlib.Core.Path.{◌≡◌, ◌∙◌}
-use borrow.Author.Rules.{rules}
 use Rattle.names.specs.Read.{Read, got, none, refused, Reader, follow, nothing, pure, map}
 use Rattle.names.specs.Names.{weekday}
 use Rattle.names.specs.Spellings.{odd}
 use Rattle.records.specs.Items.{judged, meant}
-use Rattle.records.specs.declared.Item.{Item}
 use Rattle.records.specs.declared.Meant.{Meant}
 use Rattle.records.proofs.Anywhere.{judged_in}
 use Rattle.days.specs.Weekdays.{weekday_after, weekday_meaning, weekday_item_after}

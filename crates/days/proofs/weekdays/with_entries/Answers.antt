@@ -1,10 +1,9 @@
 use borrow.Author.Rules.{rules}
 use mathlib.Core.Path.{ap}
-use Rattle.names.proofs.Facts.{Said, said}
+use Rattle.names.proofs.Facts.{said}
 use Rattle.records.proofs.Laws.{half_fits}
 use Rattle.days.specs.Weekdays.{with_entries}
 use Rattle.days.specs.Seen.{seen_marks}
-use Rattle.days.specs.declared.Marks.{Marks}
 use Rattle.days.proofs.weekdays.with_entries.Goals as goal
 
 pub returns-in_default : goal.returns-in_default

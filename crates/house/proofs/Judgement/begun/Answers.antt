@@ -1,5 +1,4 @@
 -- Only in a house sheet the separator is judged.
-use borrow.Author.Rules.{rules}
 use mathlib.Core.Path.{◌≡◌, refl}
 use Rattle.names.proofs.Manners.{not_house}
 use Rattle.house.specs.Breaks.{begun}

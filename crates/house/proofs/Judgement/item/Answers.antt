@@ -1,5 +1,4 @@
 -- Only spans are judged, and they only in a house sheet.
-use borrow.Author.Rules.{rules}
 use mathlib.Core.Path.{◌≡◌, refl}
 use Rattle.names.proofs.Manners.{not_house}
 use Rattle.house.specs.Breaks.{with_item}

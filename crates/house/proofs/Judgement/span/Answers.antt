@@ -1,5 +1,4 @@
 -- A span is judged after what came before.
-use borrow.Author.Rules.{rules}
 use Rattle.house.proofs.Judgement.span.Goals as goal
 
 pub returns : goal.returns

@@ -1,4 +1,3 @@
-use borrow.Author.Rules.{rules}
 use mathlib.Core.Path.{sym}
 use Rattle.house.proofs.Laws.{same}
 use Rattle.house.proofs.Judgement.unchanged.Goals as goal

@@ -1,5 +1,4 @@
 -- Both halves of a span's form are asked.
-use borrow.Author.Rules.{rules}
 use mathlib.Core.Path.{sym, ◌∙◌}
 use Rattle.house.proofs.spans.allowed.Goals as goal
 

@@ -1,5 +1,4 @@
 -- The end is asked, and then the start.
-use borrow.Author.Rules.{rules}
 use borrow.Author.Tests.{lt-ltb, le-ltb}
 use Rattle.house.specs.Spans.{in_order}
 use Rattle.house.proofs.spans.in_order.Goals as goal

@@ -1,5 +1,4 @@
 -- A clock time is up to 24:00 by its minutes.
-use borrow.Author.Rules.{rules}
 use Rattle.house.specs.Spans.{is_clock}
 use Rattle.house.proofs.Laws.{event_is}
 use Rattle.house.proofs.spans.is_clock.Goals as goal

@@ -1,5 +1,4 @@
 -- No repeat is told from one.
-use borrow.Author.Rules.{rules}
 use Rattle.house.specs.Spans.{is_never}
 use Rattle.house.proofs.spans.is_never.Goals as goal
 

@@ -1,5 +1,4 @@
 -- The repeat and the open end are asked.
-use borrow.Author.Rules.{rules}
 use mathlib.Core.Path.{sym, ◌∙◌}
 use Rattle.house.specs.Spans.{is_plain}
 use Rattle.house.proofs.spans.is_plain.Goals as goal

@@ -1,5 +1,4 @@
 -- The minutes of a clock time are its number.
-use borrow.Author.Rules.{rules}
 use Rattle.house.specs.Spans.{minutes}
 use Rattle.house.proofs.Laws.{event_is}
 use Rattle.house.proofs.spans.minutes.Goals as goal

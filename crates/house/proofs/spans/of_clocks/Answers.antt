@@ -1,5 +1,4 @@
 -- Both times are asked.
-use borrow.Author.Rules.{rules}
 use mathlib.Core.Path.{sym, ◌∙◌}
 use Rattle.house.specs.Spans.{of_clocks}
 use Rattle.house.proofs.spans.of_clocks.Goals as goal

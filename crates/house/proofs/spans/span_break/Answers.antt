@@ -1,5 +1,4 @@
 -- The form is judged before the order.
-use borrow.Author.Rules.{rules}
 use mathlib.Core.Path.{sym, ◌∙◌}
 use Rattle.house.specs.Spans.{span_break}
 use Rattle.house.proofs.spans.span_break.Goals as goal

@@ -1,6 +1,6 @@
 -- Of the set's kinds, those that begin with no such name count for nothing.
 use borrow.Author.Rules.{rules}
-use mathlib.Core.Logic.{⊎_elim, inl, inr}
+use mathlib.Core.Logic.{⊎_elim}
 use mathlib.Core.Path.{sym, ◌∙◌}
 use Rattle.items.specs.Sets.{bit_of}
 use Rattle.items.proofs.Wishes.{weekday_wish, month_wish, easter_wish, event_wish, holiday_wish, week_wish, other_wish}

@@ -1,7 +1,6 @@
 use borrow.Author.Rules.{rules}
-use borrow.Author.Tests.{eq-eqb, ne_eqb}
-use native.Mathlib.Omega.{arith}
-use mathlib.Core.Logic.{⊎_elim, inl, inr}
+use borrow.Author.Tests.{ne_eqb}
+use mathlib.Core.Logic.{⊎_elim}
 use Rattle.items.specs.Seen.{after_name}
 use Rattle.items.proofs.looks.begun.Goals as goal
 

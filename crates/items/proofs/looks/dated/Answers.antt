@@ -1,7 +1,6 @@
-use borrow.Author.Rules.{rules}
 use mathlib.Core.Path.{ap, ◌∙◌}
 use Rattle.names.specs.Seen.{seen_spelled}
-use Rattle.names.proofs.Facts.{Went, went, said}
+use Rattle.names.proofs.Facts.{went, said}
 use Rattle.items.proofs.Standing.{dated_is, undated_name, undated_blank}
 use Rattle.items.proofs.looks.dated.Goals as goal
 

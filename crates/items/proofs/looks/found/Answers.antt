@@ -1,4 +1,3 @@
-use borrow.Author.Rules.{rules}
 use mathlib.Core.Path.{ap}
 use Rattle.records.specs.Seen.{seen_item}
 use Rattle.items.proofs.looks.found.Goals as goal

@@ -1,4 +1,3 @@
-use borrow.Author.Rules.{rules}
 use Rattle.names.proofs.Facts.{named}
 use Rattle.items.proofs.looks.look_at.Goals as goal
 

@@ -1,11 +1,7 @@
-use borrow.Author.Rules.{rules}
-use mathlib.Core.Path.{◌≡◌, sym, ap, ◌∙◌}
+use mathlib.Core.Path.{sym, ap, ◌∙◌}
 use Rattle.names.proofs.Local.{past_one}
 use Rattle.names.proofs.NameCut.{word_local}
 use Rattle.records.specs.Seen.{seen_item}
-use Rattle.items.specs.Sets.{kinds_of}
-use Rattle.items.specs.Seen.{wished}
-use Rattle.items.specs.declared.Wish.TheVariants.{As}
 use Rattle.items.proofs.Picks.{wished_item, wished_refused, wished_none, unwished}
 use Rattle.items.proofs.looks.named.Goals as goal
 

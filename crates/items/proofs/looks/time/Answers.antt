@@ -1,5 +1,3 @@
-use borrow.Author.Rules.{rules}
-use borrow.Author.Tests.{not-true, not-false}
 use mathlib.Core.Path.{sym, ◌∙◌}
 use Rattle.items.specs.Kinds.{item_of}
 use Rattle.items.specs.Sets.{bit_of}

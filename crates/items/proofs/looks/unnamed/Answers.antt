@@ -1,4 +1,3 @@
-use borrow.Author.Rules.{rules}
 use Rattle.items.proofs.Finding.{yearly_stands, numbered_stands}
 use Rattle.items.proofs.looks.unnamed.Goals as goal
 

@@ -1,5 +1,3 @@
-use borrow.Author.Rules.{rules}
-use mathlib.Core.Path.{sym, ◌∙◌}
 use Rattle.items.specs.Sets.{bit_of}
 use Rattle.items.proofs.looks.wants_years.Goals as goal
 

@@ -1,4 +1,3 @@
-use borrow.Author.Rules.{rules}
 use Rattle.names.proofs.Facts.{went}
 use Rattle.items.proofs.looks.week_after_blank.Goals as goal
 

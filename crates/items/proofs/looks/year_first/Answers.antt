@@ -1,10 +1,7 @@
 -- Without a year no item that begins with one stands there.
-use borrow.Author.Rules.{rules}
 use native.Mathlib.Omega.{arith}
-use mathlib.Core.Bool.{◌||◌}
 use mathlib.Core.Path.{sym, ◌∙◌}
 use Rattle.names.proofs.Facts.{Was, was}
-use Rattle.items.specs.declared.Kind.TheVariants.{MonthDays, Years}
 use Rattle.items.proofs.Picks.{pick_neither, pick_yearless}
 use Rattle.items.proofs.looks.year_first.Goals as goal
 

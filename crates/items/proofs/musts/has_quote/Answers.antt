@@ -1,10 +1,5 @@
 -- No quote stands in what was passed.
-use Prim.Native.Nat.{◌-◌}
-use borrow.Author.Rules.{rules}
-use native.Mathlib.Omega.{arith}
-use mathlib.Core.Path.{◌≡◌, refl, sym, ◌∙◌}
-use lib.ListN.{length, drop}
-use Rattle.items.specs.Musts.{has_quote}
+use mathlib.Core.Path.{refl, sym, ◌∙◌}
 use Rattle.items.proofs.Quotes.{quote_here, quote_later, quote_end}
 use Rattle.items.proofs.musts.has_quote.Goals as goal
 

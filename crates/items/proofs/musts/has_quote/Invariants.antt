@@ -1,11 +1,8 @@
 -- No quote stands in what was passed.
 use Prim.Native.Nat.{◌-◌}
-use borrow.Author.Rules.{rules}
-use native.Mathlib.Omega.{arith}
-use mathlib.Core.Path.{◌≡◌, refl, sym, ◌∙◌}
+use mathlib.Core.Path.{◌≡◌}
 use lib.ListN.{length, drop}
 use Rattle.items.specs.Musts.{has_quote}
-use Rattle.items.proofs.Quotes.{quote_here, quote_later, quote_end}
 use Rattle.items.proofs.musts.has_quote.Given as goal
 
 abbrev pub invariant-loop-i : goal.invariant-loop-i

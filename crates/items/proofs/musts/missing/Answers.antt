@@ -1,5 +1,3 @@
-use borrow.Author.Rules.{rules}
-use mathlib.Core.Path.{sym, ◌∙◌}
 use Rattle.items.specs.Musts.{missing_at}
 use Rattle.items.proofs.musts.missing.Goals as goal
 

@@ -1,4 +1,3 @@
-use borrow.Author.Rules.{rules}
 use mathlib.Core.Path.{refl}
 use Rattle.records.specs.declared.Item.{Item}
 use Rattle.items.proofs.Finding.{passed_item}

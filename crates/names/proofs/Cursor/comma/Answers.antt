@@ -8,12 +8,12 @@ use Rattle.names.proofs.Cursor.comma.Goals as goal
 
 pub returns-in_default : goal.returns-in_default
 unfolding comma
-returns-in_default c = let w = (let told : Went = went c.sign-first.ensures c.in_default.is in told) in rw (w.is, c.in_default.is)
+returns-in_default c = let w : Went = went c.sign-first.ensures c.in_default.is in rw (w.is, c.in_default.is)
 
 pub returns-then-byte-eq32 : goal.returns-then-byte-eq32
 unfolding comma
-returns-then-byte-eq32 c = let w = (let told : Went = went c.sign-first.ensures c.in-Got.is in told) in rw (w.is, ahead_is _ _ _ c.byte.ensures (ap not (eq-eqb 32 _ (sym c.if-byte-eq32.true))))
+returns-then-byte-eq32 c = let w : Went = went c.sign-first.ensures c.in-Got.is in rw (w.is, ahead_is _ _ _ c.byte.ensures (ap not (eq-eqb 32 _ (sym c.if-byte-eq32.true))))
 
 pub returns-else-byte-eq32 : goal.returns-else-byte-eq32
 unfolding comma
-returns-else-byte-eq32 c = let w = (let told : Went = went c.sign-first.ensures c.in-Got.is in told) in rw (w.is, ahead_is _ _ _ c.byte.ensures (ap not (ne_eqb 32 _ (λ e. c.if-byte-eq32.false (sym e)))))
+returns-else-byte-eq32 c = let w : Went = went c.sign-first.ensures c.in-Got.is in rw (w.is, ahead_is _ _ _ c.byte.ensures (ap not (ne_eqb 32 _ (λ e. c.if-byte-eq32.false (sym e)))))

@@ -16,7 +16,7 @@ pub returns-in_default : goal.returns-in_default
 returns-in_default c = let number_small = enough_small (c.args.least - c.loop-n.n) c.loop-n.sum c.loop-n.at c.enough.result c.enough.ensures in
     let sum-small = below c.loop-n.n c.args.most c.loop-n.sum c.loop-n.invariant.0 c.loop-n.invariant.1 in
     record {
-      is = sym c.loop-n.invariant.2 ∙ digit_none _ _ c.loop-n.n c.loop-n.sum _ c.loop-n.at (omega arith) ((let told : Was = was c.digit-next.ensures c.in_default.is in told)).is ∙ c.enough.ensures;
+      is = sym c.loop-n.invariant.2 ∙ digit_none _ _ c.loop-n.n c.loop-n.sum _ c.loop-n.at (omega arith) (was c.digit-next.ensures c.in_default.is).is ∙ c.enough.ensures;
       small = omega (arith, number_small, sum-small);
     }
 
@@ -24,10 +24,10 @@ pub overflow_mul-sum : goal.overflow_mul-sum
 overflow_mul-sum c = omega (arith, few c.loop-n-test.true c.requires c.loop-n.invariant.1)
 
 pub overflow_add-sum : goal.overflow_add-sum
-overflow_add-sum c = omega (arith, (let told : Was = was c.digit-next.ensures c.in-Got.is in told), few c.loop-n-test.true c.requires c.loop-n.invariant.1)
+overflow_add-sum c = omega (arith, was c.digit-next.ensures c.in-Got.is, few c.loop-n-test.true c.requires c.loop-n.invariant.1)
 
 pub loop-n-preserved : goal.loop-n-preserved
-loop-n-preserved c = let w = (let told : Was = was c.digit-next.ensures c.in-Got.is in told) in
+loop-n-preserved c = let w : Was = was c.digit-next.ensures c.in-Got.is in
     (omega arith, grown _ _ _ c.loop-n.invariant.1 w.small, sym (digit_more _ _ c.loop-n.n c.loop-n.sum _ c.loop-n.at (omega arith) w.is) ∙ c.loop-n.invariant.2)
 
 pub returns : goal.returns

@@ -25,7 +25,7 @@ pub two_or_more-w-requires : goal.two_or_more-w-requires
 two_or_more-w-requires c = omega (arith, (let told : c.args.self.at < length c.args.s.now = inside c.args.s.now c.args.self.at (λ e. omega (arith, c.if-byte-lt65.false, c.byte.ensures ∙ e)) in told), c.two_or_more-arg-1.given)
 
 pub overflow_add-result : goal.overflow_add-result
-overflow_add-result c = omega (arith, past_one word_local ((let told : word c.args.s.now c.args.self.at ≡ got (c.in-Got.kind, c.in-Got.value) (c.args.self.at + c.in-Got.c.at) = word_rest _ _ (omega (arith, (let told : c.args.self.at < length c.args.s.now = inside c.args.s.now c.args.self.at (λ e. omega (arith, c.if-byte-lt65.false, c.byte.ensures ∙ e)) in told))) (named c.two_or_more-w.ensures c.in-Got.is).is in told)))
+overflow_add-result c = omega (arith, past_one word_local (let told : word c.args.s.now c.args.self.at ≡ got (c.in-Got.kind, c.in-Got.value) (c.args.self.at + c.in-Got.c.at) = word_rest _ _ (omega (arith, (let told : c.args.self.at < length c.args.s.now = inside c.args.s.now c.args.self.at (λ e. omega (arith, c.if-byte-lt65.false, c.byte.ensures ∙ e)) in told))) (named c.two_or_more-w.ensures c.in-Got.is).is in told))
 
 pub returns-in-Got : goal.returns-in-Got
 returns-in-Got c = (let told : word c.args.s.now c.args.self.at ≡ got (c.in-Got.kind, c.in-Got.value) (c.args.self.at + c.in-Got.c.at) = word_rest _ _ (omega (arith, (let told : c.args.self.at < length c.args.s.now = inside c.args.s.now c.args.self.at (λ e. omega (arith, c.if-byte-lt65.false, c.byte.ensures ∙ e)) in told))) (named c.two_or_more-w.ensures c.in-Got.is).is in told)

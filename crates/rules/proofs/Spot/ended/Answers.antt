@@ -1,4 +1,3 @@
-use borrow.Author.Rules.{rules}
 use Rattle.rules.proofs.Laws.{open_end}
 use Rattle.rules.proofs.Spot.ended.Goals as goal
 

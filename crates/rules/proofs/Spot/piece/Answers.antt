@@ -1,13 +1,9 @@
 -- One look at the place where the rule goes on tells the piece.
-use borrow.Author.Rules.{rules}
-use mathlib.Core.Bool.{true, false}
-use mathlib.Core.Path.{◌≡◌, ap, ◌∙◌, subst}
+use mathlib.Core.Path.{ap, ◌∙◌, subst}
 use Rattle.items.specs.Sets.{kinds_of}
 use Rattle.items.specs.Seen.{Standing}
-use Rattle.items.specs.declared.Stands.{Stands}
-use Rattle.rules.specs.Pieces.{piece}
 use Rattle.rules.specs.Seen.{turned}
-use Rattle.rules.specs.declared.Turn.TheVariants.{On, Over}
+use Rattle.rules.specs.declared.Turn.TheVariants.{On}
 use Rattle.names.proofs.Local.{past_one}
 use Rattle.names.proofs.NameCut.{word_local}
 use Rattle.rules.proofs.Turns.{has_none, may_modifier, may_other, may_unnamed, turned_item, turned_refused}

@@ -1,4 +1,3 @@
-use borrow.Author.Rules.{rules}
 use mathlib.Core.Path.{◌∙◌}
 use Rattle.items.specs.Sets.{bit_of, has, picked, kinds_of}
 use Rattle.rules.proofs.Turns.{first_piece, always_piece, colon_piece}

@@ -1,7 +1,6 @@
-use borrow.Author.Rules.{rules}
 use borrow.Author.Tests.{lt-ltb, le-ltb}
 use native.Mathlib.Omega.{arith}
-use Rattle.names.proofs.Facts.{Went, went}
+use Rattle.names.proofs.Facts.{went}
 use Rattle.rules.specs.Comments.{closed}
 use Rattle.rules.proofs.comments.closed.Goals as goal
 

@@ -1,6 +1,5 @@
-use borrow.Author.Rules.{rules}
 use mathlib.Core.Path.{ap}
-use Rattle.names.proofs.Facts.{Went, went, said}
+use Rattle.names.proofs.Facts.{went, said}
 use Rattle.rules.specs.Comments.{ill_formed, comment}
 use Rattle.rules.specs.Seen.{seen_comment}
 use Rattle.rules.proofs.Laws.{comment_stays}

@@ -1,4 +1,3 @@
-use borrow.Author.Rules.{rules}
 use Rattle.names.proofs.Facts.{went}
 use Rattle.rules.specs.Comments.{comment_apart}
 use Rattle.rules.proofs.comments.comment_after_blank.Goals as goal

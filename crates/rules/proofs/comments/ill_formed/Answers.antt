@@ -1,4 +1,3 @@
-use borrow.Author.Rules.{rules}
 use Rattle.names.proofs.Facts.{went}
 use Rattle.rules.specs.Comments.{ill_formed}
 use Rattle.rules.proofs.Laws.{skip_first, skip_others, skip_none}

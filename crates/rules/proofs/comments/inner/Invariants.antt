@@ -1,11 +1,7 @@
 use Prim.Native.Nat.{◌-◌}
-use borrow.Author.Rules.{rules}
-use native.Mathlib.Omega.{arith}
-use native.Mathlib.Numerals.{add-one}
-use mathlib.Core.Path.{◌≡◌, refl, sym, ap, ◌∙◌}
+use mathlib.Core.Path.{◌≡◌}
 use lib.ListN.{length}
 use Rattle.names.specs.Chain.{skip}
-use Rattle.names.proofs.Skips.{skip_more, skip_stop, skip_end}
 use Rattle.utf8.specs.Letters.{is_inner}
 use Rattle.rules.proofs.comments.inner.Given as goal
 

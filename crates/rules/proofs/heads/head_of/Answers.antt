@@ -1,4 +1,3 @@
-use borrow.Author.Rules.{rules}
 use native.Mathlib.Omega.{arith}
 use Rattle.rules.proofs.Warned.{tail_warnings_few}
 use Rattle.rules.proofs.heads.head_of.Goals as goal

@@ -1,4 +1,3 @@
-use borrow.Author.Rules.{rules}
 use Rattle.names.proofs.Facts.{Went, went}
 use Rattle.rules.proofs.Laws.{all_first, all_last}
 use Rattle.rules.proofs.openings.always.Goals as goal

@@ -1,4 +1,3 @@
-use borrow.Author.Rules.{rules}
 use Rattle.names.proofs.Facts.{went}
 use Rattle.rules.proofs.Turns.{blank_on, blank_off}
 use Rattle.rules.proofs.pieces.after_blank.Goals as goal

@@ -1,4 +1,3 @@
-use borrow.Author.Rules.{rules}
 use Rattle.names.proofs.Facts.{went}
 use Rattle.items.specs.Sets.{bit_of, has, picked, kinds_of}
 use Rattle.rules.proofs.Turns.{colon_blank, colon_bare}

@@ -1,6 +1,5 @@
-use borrow.Author.Rules.{rules}
 use mathlib.Core.Path.{◌∙◌}
-use Rattle.names.proofs.Facts.{Went, went}
+use Rattle.names.proofs.Facts.{went}
 use Rattle.rules.specs.declared.Stage.TheVariants.{After}
 use Rattle.rules.proofs.Turns.{comma_piece, wide_piece, bare_piece}
 use Rattle.rules.proofs.pieces.after_item.Goals as goal

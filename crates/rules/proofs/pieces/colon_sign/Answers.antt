@@ -1,4 +1,3 @@
-use borrow.Author.Rules.{rules}
 use Rattle.rules.specs.Pieces.{colon_sign}
 use Rattle.rules.proofs.pieces.colon_sign.Goals as goal
 

@@ -1,4 +1,3 @@
-use borrow.Author.Rules.{rules}
 use Rattle.records.specs.Words.{Placed}
 use Rattle.items.proofs.Quotes.{lack_is}
 use Rattle.rules.specs.declared.Stage.{Stage}

@@ -1,5 +1,4 @@
 -- The kinds of each number are computed.
-use borrow.Author.Rules.{rules}
 use Rattle.items.specs.Sets.{bit_of, has, picked, kinds_of}
 use Rattle.rules.specs.Rows.{listed}
 use Rattle.rules.proofs.rows.listed.Goals as goal

@@ -1,5 +1,4 @@
-use borrow.Author.Rules.{rules}
-use Rattle.names.proofs.Facts.{Went, went}
+use Rattle.names.proofs.Facts.{went}
 use Rattle.rules.specs.Separators.{bars}
 use Rattle.rules.proofs.separators.bars.Goals as goal
 

@@ -1,4 +1,3 @@
-use borrow.Author.Rules.{rules}
 use borrow.Author.Tests.{eq-eqb, ne_eqb}
 use Rattle.names.specs.Read.{at_end}
 use Rattle.rules.specs.Separators.{next}

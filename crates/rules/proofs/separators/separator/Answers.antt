@@ -1,4 +1,3 @@
-use borrow.Author.Rules.{rules}
 use Rattle.names.proofs.Facts.{Went, went}
 use Rattle.rules.specs.Separators.{separator}
 use Rattle.rules.proofs.separators.separator.Goals as goal

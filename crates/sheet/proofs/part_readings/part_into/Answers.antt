@@ -1,12 +1,9 @@
 use Prim.Native.Nat.{◌*◌, ◌≤◌}
-use borrow.Author.Rules.{rules}
 use native.Mathlib.Omega.{arith}
-use mathlib.Core.Bool.{true}
-use mathlib.Core.Path.{◌≡◌, sym, ap, ◌∙◌}
+use mathlib.Core.Path.{sym, ap, ◌∙◌}
 use lib.ListN.{length}
 use lib.Seq.{length-take-le}
 use Rattle.lent_slots.specs.Tables.{Tables}
-use Rattle.parts.specs.Parts.{begins}
 use Rattle.parts.proofs.PartLaws.{begins_fits, end_fits}
 use Rattle.sheet.proofs.Readings.{part_long, part_nowhere, part_text}
 use Rattle.sheet.proofs.part_readings.part_into.Goals as goal

@@ -1,10 +1,7 @@
 -- Record by record.
 use borrow.Author.Rules.{rules}
-use Prim.Native.Nat.{◌*◌, ◌-◌, ◌≤◌}
 use native.Mathlib.Omega.{arith}
-use mathlib.Core.Path.{◌≡◌, sym, ◌∙◌}
-use lib.ListN.{length, drop}
-use Rattle.lent_slots.specs.Tables.{all_kept, records_in}
+use mathlib.Core.Path.{sym, ◌∙◌}
 use Rattle.lent_slots.proofs.Cells.{out_begin, out_more, out_end}
 use Rattle.sheet.proofs.sheets.put_records.Goals as goal
 

@@ -1,11 +1,8 @@
 -- Record by record.
-use borrow.Author.Rules.{rules}
 use Prim.Native.Nat.{◌*◌, ◌-◌, ◌≤◌}
-use native.Mathlib.Omega.{arith}
-use mathlib.Core.Path.{◌≡◌, sym, ◌∙◌}
+use mathlib.Core.Path.{◌≡◌}
 use lib.ListN.{length, drop}
 use Rattle.lent_slots.specs.Tables.{all_kept, records_in}
-use Rattle.lent_slots.proofs.Cells.{out_begin, out_more, out_end}
 use Rattle.sheet.proofs.sheets.put_records.Given as goal
 
 abbrev pub invariant-loop-slot : goal.invariant-loop-slot

@@ -1,6 +1,5 @@
 -- What was kept and put into the tables, or read again, is what they are to have.
 use Prim.Native.Nat.{◌*◌}
-use borrow.Author.Rules.{rules}
 use native.Mathlib.Omega.{arith}
 use mathlib.Core.List.{[]}
 use mathlib.Core.Path.{ap, ◌∙◌}

@@ -1,26 +1,15 @@
 -- The tables, with the items that are left kept after those that are, are those with the whole rule, and its first break is that of them all.
-use Prim.Native.Nat.{ℕ, ◌-◌}
-use borrow.Author.Rules.{rules}
 use native.Mathlib.Omega.{arith}
-use mathlib.Core.Logic.{◌⊎◌, inr}
-use mathlib.Core.Path.{◌≡◌, refl, ap, ◌∙◌}
-use lib.ListN.{length}
-use Rattle.names.specs.Read.{Read, got, follow, nothing, pure}
-use Rattle.names.proofs.Facts.{Said, said}
+use mathlib.Core.Path.{refl, ap, ◌∙◌}
+use Rattle.names.proofs.Facts.{said}
 use Rattle.names.proofs.Local.{past_one}
 use Rattle.records.proofs.Warned.{item_warnings_few}
-use Rattle.records.specs.Words.{Placed, item_record}
-use Rattle.rules.specs.Pieces.{more, piece}
-use Rattle.rules.specs.Rules.{head_of}
+use Rattle.records.specs.Words.{item_record}
 use Rattle.rules.specs.Seen.{seen_piece}
-use Rattle.rules.specs.declared.Stage.{Stage}
-use Rattle.rules.specs.declared.Stage.TheVariants.{After}
-use Rattle.rules.specs.declared.Tail.{Tail}
 use Rattle.rules.proofs.Cut.{more_local}
 use Rattle.rules.proofs.Chained.{piece_item}
 use Rattle.rules.proofs.Small.{opening_small}
-use Rattle.text_rules.specs.Into.{rule_into}
-use Rattle.text_rules.proofs.Fills.{Filled, left, headed, left_refused, left_end, Turn, turn_begin, turn_more, turn_whole, head_small, head_placed, item_placed}
+use Rattle.text_rules.proofs.Fills.{left_refused, left_end, turn_begin, turn_more, turn_whole, head_small, head_placed, item_placed}
 use Rattle.text_rules.proofs.rule.fill_pieces.Goals as goal
 
 pub loop-a-init : goal.loop-a-init

@@ -1,9 +1,7 @@
 -- The opening, and what is read on from it; or the opening's refusal.
-use borrow.Author.Rules.{rules}
 use mathlib.Core.Path.{ap}
-use Rattle.names.proofs.Facts.{Said, said}
+use Rattle.names.proofs.Facts.{said}
 use Rattle.rules.specs.Seen.{seen_opening}
-use Rattle.rules.specs.declared.Opening.{Opening}
 use Rattle.text_rules.proofs.Fills.{opening_refused}
 use Rattle.text_rules.proofs.rule.fill_rule.Goals as goal
 

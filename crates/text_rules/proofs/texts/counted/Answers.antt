@@ -1,6 +1,4 @@
 -- The first break, or none.
-use borrow.Author.Rules.{rules}
-use mathlib.Core.Path.{refl}
 use Rattle.text_rules.proofs.texts.counted.Goals as goal
 
 pub returns-in-Nowhere : goal.returns-in-Nowhere

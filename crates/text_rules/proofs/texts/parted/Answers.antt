@@ -1,4 +1,3 @@
-use borrow.Author.Rules.{rules}
 use mathlib.Core.Path.{ap, ◌∙◌}
 use Rattle.items.proofs.Quotes.{lack_is}
 use Rattle.rules.specs.Seen.{seen_next}
