@@ -15,6 +15,5 @@ python3 "$root/tools/check_slips.py" tests/slips.txt
 said=$(printf '2020 Dec 25-05 off\n' | bash "$root/tools/lorukinde.sh" say)
 echo "$said"
 [ "$said" = "2020 Dec 25-05 off
-  closed: 25 December 2020 to 5 January 2021
-  remark at character 13: the 5th is in January 2021: the first 5th that does not come before 25 December 2020; write \`2021 Jan 5\`, not \`05\`" ] || { echo "the program should have said otherwise" >&2; exit 1; }
+  closed: 25 December 2020 to 5 January 2021" ] || { echo "the program should have said otherwise" >&2; exit 1; }
 echo "rust/lorukinde: tests and program passed"
