@@ -1,5 +1,5 @@
 #!/usr/bin/env bash
-# The crate rust/lorukinde over the static library: its tests, the numbers and places of its list of slips by the second reader, and the program on one sheet.
+# The crate rust/lorukinde over the static library: its tests, the numbers and places of its lists of slips by the second reader, and the program on one sheet.
 # Installs what is missing and makes the archive if it is not there (rust.sh).
 #   LORUKINDE_LIB_DIR   the folder of libc_calls.a (default: target/staticlib)
 set -euo pipefail
@@ -11,6 +11,7 @@ cd "$crate"
 cargo test --offline "${tests[@]}"
 need python3 python3
 python3 "$root/tools/check_slips.py" tests/slips.txt
+python3 "$root/tools/check_slips.py" tests/meant.txt
 
 said=$(printf '2020 Dec 25-05 off\n' | bash "$root/tools/lorukinde.sh" say)
 echo "$said"
