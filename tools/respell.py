@@ -101,10 +101,17 @@ def table(found, fields):
 def turned(path, text, into):
     kept = imported(text)
     of_a_function = re.search(r"/proofs/\S+/(Proof|Answers|Invariants)\.antt$", path)
+    comments = [m.span() for m in re.finditer(r"(?m)(?<!\S)(?:--|//)[^\n]*", text)]
+
+    def is_prose(at):
+        return any(a <= at < b for a, b in comments) and not (at and text[at - 1] in "`.")
 
     def new(m):
         name = m.group()
         if name not in into or name in kept:
+            return name
+        # a function of src/ keeps its name, and so does a word of a comment
+        if not path.endswith(".antt") and name == name.lower() and "-" not in name or "-" in name and is_prose(m.start()):
             return name
         # in a proof that walks the code, what follows a dot is a step of the code
         if of_a_function and m.start() and text[m.start() - 1] == "." and name not in FIELDS:

@@ -2,7 +2,7 @@
 use Rattle.std.specs.Prelude.{if◌then◌else◌}
 use Prim.Native.Nat.{ℕ, ◌≤◌, ◌<◌, ◌^◌}
 use native.Mathlib.Omega.{arith}
-use mathlib.Core.Bool.{Bool, true, false, ◌&&◌, ◌||◌, true≢false}
+use mathlib.Core.Bool.{Bool, true, false, ◌||◌, true≢false}
 use mathlib.Core.Path.{◌≡◌, refl, sym, ap, ◌∙◌}
 use borrow.Author.Tests.{eqb-true, eq-eqb, ne_eqb}
 use lib.Dec.{eqb}
@@ -10,15 +10,12 @@ use lib.IntN.{ℤ, pos, negsuc, nat_abs}
 use lib.Signed.{mag}
 use mir.Syntax.{w16}
 use mir.Val.{of_z, to_z}
-use Rattle.names.specs.Tests.{within}
 use Rattle.names.specs.Names.{weekday, month}
 use Rattle.records.specs.declared.MonthSpan.{MonthSpan}
-use Rattle.records.specs.declared.Day.{Day}
-use Rattle.records.specs.declared.Day.TheVariants.{Fixed, Weekday, Easter}
+use Rattle.records.specs.declared.Day.TheVariants.{Fixed, Weekday}
 use Rattle.records.specs.declared.DateOffset.{DateOffset}
 use Rattle.records.specs.declared.DateSpan.{DateSpan}
 use Rattle.sheet_texts.specs.Names.{written, is_in}
-use Rattle.sheet_texts.specs.Days.{good_days}
 use Rattle.sheet_texts.specs.Dates as texts
 use Rattle.sheet_texts.proofs.Tests.{both}
 use Rattle.sheet_texts.specs.Numbers.{same_number}

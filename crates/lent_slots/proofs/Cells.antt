@@ -1,12 +1,12 @@
 -- The cells of records in a table, and records taken out of it.
 use Prim.Native.Nat.{ℕ, suc, ◌+◌, ◌*◌, ◌-◌, ◌≤◌, ◌<◌}
-use mathlib.Core.List.{List, [], ◌∷◌, ◌++◌, map, append_assoc}
+use mathlib.Core.List.{List, [], ◌∷◌, ◌++◌, append_assoc}
 use mathlib.Core.Path.{◌≡◌, refl, sym, ap, ◌∙◌}
 use native.Mathlib.Omega.{arith}
 use native.Mathlib.Nat.{zero-add, zero-mul, suc-mul}
 use native.Mathlib.Numerals.{add-one}
 use lib.IntN.{ℤ}
-use lib.ListN.{length, take, drop, set, length-append, length-replicate}
+use lib.ListN.{length, take, drop, set, length-append}
 use lib.Seq.{sets, sets-eq, take_at, drop_at, drop-drop}
 use Rattle.lent_slots.specs.Tables.{Layout, as_words, laid, Tables, kept_in, all_kept, records_in}
 use Rattle.lent_slots.proofs.Keeps.{Wide, words_wide}

@@ -1,18 +1,17 @@
 -- The words of a record's bytes are the record's.
-use Prim.Native.Nat.{ℕ, zero, suc, ◌+◌, ◌*◌, ◌/◌, ◌%◌, ◌^◌, ◌<◌}
+use Prim.Native.Nat.{ℕ, ◌+◌, ◌/◌, ◌%◌, ◌<◌}
 use native.Mathlib.Nat.{add-zero}
 use native.Mathlib.Omega.{arith}
 use mathlib.Core.List.{List, [], ◌∷◌, ◌++◌, append_assoc}
 use mathlib.Core.Path.{◌≡◌, refl, sym, ap, ◌∙◌}
-use lib.IntN.{ℤ, pos}
+use lib.IntN.{ℤ}
 use lib.ListN.{length, get_or, length-append}
 use lib.Seq.{get_or-append-add}
-use lib.Signed.{mag}
 use mir.Syntax.{w32}
-use mir.Val.{Fits, SFits, of_z, to_z}
+use mir.Val.{SFits, of_z}
 use mir.Facts.{to_z-of_z, Fits-of_z}
 use Rattle.lent_slots.specs.Bytes.{little_endian, word_bytes, record_bytes}
-use Rattle.lent_slots.specs.Slots.{number_from, word_from, words_from}
+use Rattle.lent_slots.specs.Slots.{number_from, words_from}
 
 -- four bytes make the number up again
 pub number_of : (pre post : List ℕ) (n : ℕ) → n < 4294967296 → number_from (pre ++ (little_endian n ++ post)) (length pre) ≡ n

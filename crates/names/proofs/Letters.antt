@@ -1,7 +1,7 @@
 -- The bytes of a name that stands in a text are letters.
-use Rattle.std.specs.Prelude.{if◌then◌else◌}
+use Rattle.std.specs.Prelude.{if◌then◌else◌, if◌then◌else◌}
 use Prim.Native.Nat.{ℕ, ◌+◌, ◌≤◌, ◌<◌}
-use mathlib.Core.Bool.{Bool, true, false, ◌&&◌, ◌||◌, true≢false, and-eq-true_iff}
+use mathlib.Core.Bool.{Bool, true, false, ◌&&◌, ◌||◌, and-eq-true_iff}
 use mathlib.Core.List.{List, [], ◌∷◌}
 use mathlib.Core.Path.{◌≡◌, refl, sym, ap, ◌∙◌}
 use native.Mathlib.Omega.{arith}
@@ -10,7 +10,7 @@ use borrow.Author.Tests.{le-leb, lt-leb, eqb-true}
 use lib.Dec.{eqb}
 use lib.ListN.{length, get_or}
 use Rattle.names.specs.Tests.{within}
-use Rattle.names.specs.Read.{Read, got}
+use Rattle.names.specs.Read.{got}
 use Rattle.names.specs.Names.{Row, Word, names, spelled_so, lower, letter, word}
 use Rattle.names.specs.Table.{compared, stand, first_in}
 use Rattle.names.specs.Letters.{capital, small, Letter, Letters}

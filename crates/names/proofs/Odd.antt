@@ -1,11 +1,11 @@
 -- How a name is written: its letters one by one, and that it depends on nothing but its own bytes.
-use Prim.Native.Nat.{ℕ, zero, suc, ◌+◌, ◌≤◌, ◌<◌}
+use Prim.Native.Nat.{ℕ, suc, ◌+◌, ◌≤◌, ◌<◌}
 use native.Mathlib.Omega.{arith}
 use native.Mathlib.Nat.{suc-add, zero-add}
 use mathlib.Core.Bool.{Bool, true, false, ◌&&◌}
 use mathlib.Core.List.{List, [], ◌∷◌, ◌++◌, append-nil}
-use mathlib.Core.Path.{◌≡◌, refl, ap, ◌∙◌}
-use lib.ListN.{length, get_or, take, drop, length-take, drop_of_length-le}
+use mathlib.Core.Path.{◌≡◌}
+use lib.ListN.{length, get_or, take, length-take, drop_of_length-le}
 use lib.Seq.{slice, slice-cons, take-append-le}
 use Rattle.names.specs.Read.{Reader, got, none, pure, ◌>>=◌}
 use Rattle.names.specs.Names.{Word, word, name}

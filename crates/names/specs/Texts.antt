@@ -2,7 +2,7 @@
 use Rattle.std.specs.Prelude.{ℕ, List, [], ◌∷◌, not, eqb}
 use Prim.Native.Char.{Char, code}
 use Prim.Native.String.{String, [] as empty, ◌∷◌ as ◌then◌}
-use Rattle.names.specs.Read.{Reader, pure, ◌>>◌, ◌>>=◌, map, one, ahead}
+use Rattle.names.specs.Read.{Reader, pure, ◌>>◌, map, one, ahead}
 use Rattle.names.specs.Chain.{skip}
 
 -- the bytes of a quoted text

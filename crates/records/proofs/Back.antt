@@ -4,7 +4,7 @@ use Prim.Native.Nat.{ℕ, zero, suc, ◌+◌, ◌<◌, ◌≤◌}
 use native.Mathlib.Omega.{arith}
 use native.Mathlib.Numerals.{towards_suc}
 use mathlib.Core.List.{List, [], ◌∷◌}
-use mathlib.Core.Bool.{Bool, true, false, ◌&&◌, ◌||◌, not, true≢false}
+use mathlib.Core.Bool.{Bool, true, false, ◌&&◌, ◌||◌}
 use mathlib.Core.Path.{◌≡◌, refl, sym, ap, ◌∙◌}
 use borrow.Author.Tests.{leb-true, le-leb}
 use lib.Dec.{leb}
@@ -19,7 +19,7 @@ use Rattle.records.specs.Ranges.{Range, between, from, exactly, about, year, nth
 use Rattle.records.specs.Fits.{word_at, passes, unused, is_kind, date_fits, time_fits, years_fit, months_fit, dates_fit, weeks_fit, weekdays_fit, holidays_fit, times_fit, item_fits}
 use Rattle.records.specs.Told.{up_to, signed_at, day_at, date_at, offset_at, time_at, repeat_at, years_in, months_in, dates_in, weeks_in, weekdays_in, holidays_in, times_in, candidate}
 use Rattle.records.proofs.Tests.{both, either}
-use Rattle.records.proofs.WordLaws.{from_is, exactly_is, from_in, number_at_lem, year_at, signed_at_lem, nth_at}
+use Rattle.records.proofs.WordLaws.{from_is, exactly_is, number_at_lem, year_at, signed_at_lem, nth_at}
 use Rattle.records.proofs.Sixteen.{cleared, placed_cleared, unused_zeros}
 
 -- the seven words of a date, the two of a time

@@ -1,19 +1,18 @@
 -- What was written is read back as it was, and what is read has just these words. No name of what is read calls for a warning.
 use Rattle.std.specs.Prelude.{if◌then◌else◌}
-use Prim.Native.Nat.{ℕ, zero, suc, ◌+◌, ◌≤◌, ◌<◌}
+use Prim.Native.Nat.{ℕ, zero, suc, ◌+◌, ◌≤◌}
 use native.Mathlib.Omega.{arith}
-use native.Mathlib.Numerals.{add-one}
 use mathlib.Core.List.{List, [], ◌∷◌, ◌++◌}
 use mathlib.Core.Option.{Option, none, some}
-use mathlib.Core.Bool.{Bool, true, false, ◌&&◌, true≢false}
+use mathlib.Core.Bool.{Bool, true, false, ◌&&◌}
 use mathlib.Core.Path.{◌≡◌, refl, sym, ap, ◌∙◌}
 use lib.IntN.{ℤ, pos}
 use lib.Signed.{non_neg}
-use lib.ListN.{length, drop, set, replicate}
+use lib.ListN.{length, drop}
 use Rattle.records.specs.Ranges as ranges
 use Rattle.records.specs.Ranges.{between, from, exactly, up}
 use Rattle.records.specs.Fits.{word_at, passes, unused, is_kind, head_fits, years_fit, months_fit, date_fits, dates_fit, weeks_fit, weekdays_fit, holidays_fit, time_fits, times_fit, item_fits}
-use Rattle.records.specs.Told.{up_to, byte_at, number_at, number_of, head_at, placed, item_in, record_in, quiet, quiet_head}
+use Rattle.records.specs.Told.{up_to, byte_at, number_at, head_at, placed, item_in, record_in, quiet, quiet_head}
 use Rattle.records.specs.Words.{record16, day_words, time_words, repeat_word, bit, words_of, placed_at, head_words, item_record}
 use Rattle.records.specs.declared.Day.{Day}
 use Rattle.records.specs.declared.Day.TheVariants.{Fixed, Weekday, Easter}
@@ -22,10 +21,9 @@ use Rattle.records.specs.declared.Time.TheVariants as time
 use Rattle.records.specs.declared.Head.{Head}
 use Rattle.records.specs.declared.Item.{Item}
 use Rattle.records.specs.declared.Item.TheVariants.{Years, Months, Dates, Weeks, Weekdays, Holidays, Times}
-use Rattle.records.specs.declared.Record.{Record}
 use Rattle.records.specs.declared.Record.TheVariants as tells
 use Rattle.records.proofs.Tests.{both}
-use Rattle.records.proofs.WordLaws.{from_in, exactly_is, number_at_lem, unused_more, unused_last, count_at}
+use Rattle.records.proofs.WordLaws.{from_in, number_at_lem, unused_more, unused_last, count_at}
 use Rattle.records.proofs.Sixteen.{sixteen, cleared, placed_cleared, item_sixteen}
 use Rattle.records.proofs.Back.{then_word, then_unused, first_word}
 use Rattle.records.proofs.Items.{item_told, told_fits, told_words}

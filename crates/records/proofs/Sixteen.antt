@@ -1,11 +1,11 @@
 -- Records, word by word.
-use Prim.Native.Nat.{ℕ, zero, suc, ◌+◌, ◌<◌, ◌≤◌}
+use Prim.Native.Nat.{ℕ, ◌≤◌}
 use native.Mathlib.Omega.{arith}
-use mathlib.Core.List.{List, [], ◌∷◌, ◌++◌}
-use mathlib.Core.Bool.{Bool, true, false, ◌&&◌, true≢false}
-use mathlib.Core.Path.{◌≡◌, refl, sym, ap, ◌∙◌}
+use mathlib.Core.List.{List, [], ◌∷◌}
+use mathlib.Core.Bool.{true}
+use mathlib.Core.Path.{◌≡◌, refl, ap}
 use lib.IntN.{ℤ, pos}
-use lib.ListN.{length, drop, set, replicate, length-append, length-replicate}
+use lib.ListN.{length, replicate, length-append, length-replicate}
 use Rattle.records.specs.Words.{record16, day_words, time_words, item_words, words_of, placed_at, head_words}
 use Rattle.records.specs.declared.Day.{Day}
 use Rattle.records.specs.declared.Day.TheVariants.{Fixed, Weekday, Easter}
@@ -14,8 +14,8 @@ use Rattle.records.specs.declared.Time.TheVariants as time
 use Rattle.records.specs.declared.Head.{Head}
 use Rattle.records.specs.declared.Item.{Item}
 use Rattle.records.specs.declared.Item.TheVariants.{Years, Months, Dates, Weeks, Weekdays, Holidays, Times}
-use Rattle.records.specs.Ranges.{between, exactly, up}
-use Rattle.records.specs.Fits.{word_at, passes, unused, date_fits, time_fits, head_fits, item_fits}
+use Rattle.records.specs.Ranges.{exactly, up}
+use Rattle.records.specs.Fits.{word_at, passes, unused, date_fits, time_fits, item_fits}
 use Rattle.records.proofs.Tests.{both}
 use Rattle.records.proofs.WordLaws.{exactly_is}
 

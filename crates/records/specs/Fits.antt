@@ -1,5 +1,5 @@
 -- Which records fit: each word in its kind's range, unused words 0, the last word, a place, from 0 up.
-use Rattle.std.specs.Prelude.{ℕ, zero, suc, ◌+◌, List, [], ◌∷◌, Bool, true, false, ◌&&◌, ◌||◌, ℤ, pos, get_or, drop, if◌then◌else◌}
+use Rattle.std.specs.Prelude.{ℕ, suc, List, [], ◌∷◌, Bool, true, false, ◌&&◌, ◌||◌, ℤ, pos, get_or, drop, if◌then◌else◌}
 use Rattle.records.specs.Ranges as ranges
 use Rattle.records.specs.Ranges.{Row, exactly, up}
 

@@ -9,7 +9,7 @@ use borrow.Author.Tests.{eq-eqb}
 use lib.Dec.{eqb}
 use Rattle.names.specs.Tests.{within}
 use Rattle.names.specs.Names.{Word, Row, weekday, month, holiday}
-use Rattle.names.proofs.Laws.{within_range, within_true}
+use Rattle.names.proofs.Laws.{within_range}
 use Rattle.sheet_texts.specs.Names.{written, is_in, same_word}
 use Rattle.sheet_texts.proofs.Letters.{same_word_lem}
 use Rattle.sheet_texts.proofs.Tests.{both}

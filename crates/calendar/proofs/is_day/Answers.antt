@@ -1,4 +1,3 @@
-use borrow.Author.Rules.{rules}
 use mathlib.Core.Path.{sym, ◌∙◌}
 use Rattle.calendar.specs.Calendar.{is_day}
 use Rattle.calendar.proofs.is_day.Goals as goal

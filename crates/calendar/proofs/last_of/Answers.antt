@@ -1,5 +1,4 @@
 use borrow.Author.Rules.{rules}
-use native.Mathlib.Omega.{arith}
 use mathlib.Core.Path.{sym}
 use Rattle.calendar.specs.Calendar.{last_of}
 use Rattle.calendar.proofs.Months.{thirty, thirty_one}

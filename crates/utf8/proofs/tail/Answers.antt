@@ -1,4 +1,3 @@
-use borrow.Author.Rules.{rules}
 use Rattle.utf8.specs.Utf8.{utf8_tail}
 use Rattle.utf8.proofs.tail.Goals as goal
 

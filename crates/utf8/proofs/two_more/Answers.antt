@@ -1,4 +1,3 @@
-use borrow.Author.Rules.{rules}
 use Rattle.names.proofs.Facts.{went}
 use Rattle.utf8.proofs.two_more.Goals as goal
 

@@ -7,8 +7,8 @@ use Rattle.dates.proofs.bare_ends.first_with.Goals as goal
 
 pub returns-then-is_day : goal.returns-then-is_day
 unfolding first_with
-returns-then-is_day c = rw ((let told : is_day c.args.a.year c.args.a.month c.args.e ≡ true = sym c.is_day.ensures ∙ c.if-is_day.true in told))
+returns-then-is_day c = rw (sym c.is_day.ensures ∙ c.if-is_day.true)
 
 pub returns-else-is_day : goal.returns-else-is_day
 unfolding first_with
-returns-else-is_day c = rw ((let told : is_day c.args.a.year c.args.a.month c.args.e ≡ false = sym c.is_day.ensures ∙ c.if-is_day.false in told)) c.next_month.ensures
+returns-else-is_day c = rw (sym c.is_day.ensures ∙ c.if-is_day.false) c.next_month.ensures

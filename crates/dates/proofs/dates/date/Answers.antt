@@ -14,12 +14,12 @@ Name = Said (Word × Bool)
 
 pub returns-in_default : goal.returns-in_default
 unfolding date
-returns-in_default c = rw (c.optional_year-y.ensures, ((let told : Name = said c.spelled-name.ensures (ap seen_spelled c.in_default.is) in told)).is)
+returns-in_default c = rw (c.optional_year-y.ensures, (said c.spelled-name.ensures (ap seen_spelled c.in_default.is)).is)
 
 pub returns-in_default-rest : goal.returns-in_default-rest
 unfolding date
-returns-in_default-rest c = let w = (let told : Name × Said Spelt = ((let told : Name = said c.spelled-name.ensures (ap seen_spelled c.in-Got.is) in told), said c.day_after-rest.ensures (ap seen_day c.in_default-rest.is)) in told) in rw (c.optional_year-y.ensures, w.0.is, w.1.is)
+returns-in_default-rest c = let w : Name × Said Spelt = (said c.spelled-name.ensures (ap seen_spelled c.in-Got.is), said c.day_after-rest.ensures (ap seen_day c.in_default-rest.is)) in rw (c.optional_year-y.ensures, w.0.is, w.1.is)
 
 pub returns : goal.returns
 unfolding date
-returns c = let w = (let told : Name × Said Spelt = ((let told : Name = said c.spelled-name.ensures (ap seen_spelled c.in-Got.is) in told), said c.day_after-rest.ensures (ap seen_day c.in-Got-rest.is)) in told) in rw (c.optional_year-y.ensures, w.0.is, w.1.is)
+returns c = let w : Name × Said Spelt = (said c.spelled-name.ensures (ap seen_spelled c.in-Got.is), said c.day_after-rest.ensures (ap seen_day c.in-Got-rest.is)) in rw (c.optional_year-y.ensures, w.0.is, w.1.is)

@@ -7,16 +7,16 @@ use Rattle.dates.proofs.dates.front_nth.Goals as goal
 
 pub returns-in_default : goal.returns-in_default
 unfolding front_nth
-returns-in_default c = rw ((let told : Was = was c.ordinal-number.ensures c.in_default.is in told)).is
+returns-in_default c = rw (was c.ordinal-number.ensures c.in_default.is).is
 
 pub overflow_cast-n : goal.overflow_cast-n
 unfolding front_nth
-overflow_cast-n c = let w = (let told : Was = was c.ordinal-number.ensures c.in-Got.is in told) in omega arith
+overflow_cast-n c = let w : Was = was c.ordinal-number.ensures c.in-Got.is in omega arith
 
 pub signed-requires : goal.signed-requires
 unfolding front_nth
-signed-requires c = let w = (let told : Was = was c.ordinal-number.ensures c.in-Got.is in told) in omega arith
+signed-requires c = let w : Was = was c.ordinal-number.ensures c.in-Got.is in omega arith
 
 pub returns : goal.returns
 unfolding front_nth
-returns c = rw (((let told : Was = was c.ordinal-number.ensures c.in-Got.is in told)).is, half_fits c.signed.result c.signed.type_inv, c.signed.ensures)
+returns c = rw ((was c.ordinal-number.ensures c.in-Got.is).is, half_fits c.signed.result c.signed.type_inv, c.signed.ensures)

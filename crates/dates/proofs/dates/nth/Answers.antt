@@ -8,8 +8,8 @@ use Rattle.dates.proofs.dates.nth.Goals as goal
 
 pub returns-in_default : goal.returns-in_default
 unfolding nth
-returns-in_default c = rw (((let told : Said ℤ = said c.back_nth-back.ensures (ap seen_nth c.in_default.is) in told)).is, c.in_default.is)
+returns-in_default c = rw ((said c.back_nth-back.ensures (ap seen_nth c.in_default.is)).is, c.in_default.is)
 
 pub returns : goal.returns
 unfolding nth
-returns c = rw ((let told : Said ℤ = said c.back_nth-back.ensures (ap seen_nth c.in-Missing.is) in told)).is c.front_nth.ensures
+returns c = rw (said c.back_nth-back.ensures (ap seen_nth c.in-Missing.is)).is c.front_nth.ensures

@@ -6,16 +6,16 @@ use Rattle.dates.proofs.dates.optional_year.Goals as goal
 
 pub returns-in_default : goal.returns-in_default
 unfolding optional_year
-returns-in_default c = rw ((let told : Was = was c.year-number.ensures c.in_default.is in told)).is
+returns-in_default c = rw (was c.year-number.ensures c.in_default.is).is
 
 pub returns-in_default-after : goal.returns-in_default-after
 unfolding optional_year
-returns-in_default-after c = let w = (let told : Was × Went = ((let told : Was = was c.year-number.ensures c.in-Got.is in told), went c.blank-after.ensures c.in_default-after.is) in told) in rw (w.0.is, w.1.is)
+returns-in_default-after c = let w : Was × Went = (was c.year-number.ensures c.in-Got.is, went c.blank-after.ensures c.in_default-after.is) in rw (w.0.is, w.1.is)
 
 pub overflow_cast-result : goal.overflow_cast-result
 unfolding optional_year
-overflow_cast-result c = let w = ((let told : Was × Went = ((let told : Was = was c.year-number.ensures c.in-Got.is in told), went c.blank-after.ensures c.in-Got-after.is) in told)).0 in omega arith
+overflow_cast-result c = let w = (let told : Was × Went = (was c.year-number.ensures c.in-Got.is, went c.blank-after.ensures c.in-Got-after.is) in told).0 in omega arith
 
 pub returns : goal.returns
 unfolding optional_year
-returns c = let w = (let told : Was × Went = ((let told : Was = was c.year-number.ensures c.in-Got.is in told), went c.blank-after.ensures c.in-Got-after.is) in told) in rw (w.0.is, w.1.is)
+returns c = let w : Was × Went = (was c.year-number.ensures c.in-Got.is, went c.blank-after.ensures c.in-Got-after.is) in rw (w.0.is, w.1.is)

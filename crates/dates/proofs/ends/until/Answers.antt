@@ -8,8 +8,8 @@ use Rattle.dates.proofs.ends.until.Goals as goal
 
 pub returns-in-Got : goal.returns-in-Got
 unfolding until until_date
-returns-in-Got c = rw (((let told : Said RawDate = said c.date-first.ensures (ap seen_date c.in-Got.is) in told)).is, c.offset-then.ensures)
+returns-in-Got c = rw ((said c.date-first.ensures (ap seen_date c.in-Got.is)).is, c.offset-then.ensures)
 
 pub returns-in-Missing : goal.returns-in-Missing
 unfolding until until_date
-returns-in-Missing c = rw ((let told : Said RawDate = said c.date-first.ensures (ap seen_date c.in-Missing.is) in told)).is c.bare_day.ensures
+returns-in-Missing c = rw (said c.date-first.ensures (ap seen_date c.in-Missing.is)).is c.bare_day.ensures

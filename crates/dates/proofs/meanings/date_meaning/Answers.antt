@@ -7,11 +7,11 @@ use Rattle.dates.proofs.meanings.date_meaning.Goals as goal
 
 pub ended-requires : goal.ended-requires
 unfolding date_meaning
-ended-requires c = let p = (let told : Good c.args.r = dates_good c.args.r ((let told : good_dates c.args.r ≡ true = sym c.good_dates.ensures ∙ c.if-good_dates.true in told)) in told) in rw c.dated-start.ensures p.year
+ended-requires c = let p : Good c.args.r = dates_good c.args.r (sym c.good_dates.ensures ∙ c.if-good_dates.true) in rw c.dated-start.ensures p.year
 
 pub returns-then-good_dates : goal.returns-then-good_dates
 unfolding date_meaning
-returns-then-good_dates c = rw ((let told : good_dates c.args.r ≡ true = sym c.good_dates.ensures ∙ c.if-good_dates.true in told), ← c.dated-start.ensures, ← c.offset_of-before.ensures, ← c.odd_of-odd.ensures) c.ended.ensures
+returns-then-good_dates c = rw (sym c.good_dates.ensures ∙ c.if-good_dates.true, ← c.dated-start.ensures, ← c.offset_of-before.ensures, ← c.odd_of-odd.ensures) c.ended.ensures
 
 pub returns-else-good_dates : goal.returns-else-good_dates
 unfolding date_meaning

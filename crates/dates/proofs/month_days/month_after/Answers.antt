@@ -5,12 +5,12 @@ use Rattle.dates.proofs.month_days.month_after.Goals as goal
 
 pub returns-in_default : goal.returns-in_default
 unfolding last_month
-returns-in_default c = rw ((let told : Went = went c.sign-minus.ensures c.in_default.is in told)).is
+returns-in_default c = rw (went c.sign-minus.ensures c.in_default.is).is
 
 pub returns-in_default-name : goal.returns-in_default-name
 unfolding last_month
-returns-in_default-name c = let w = (let told : Went × Called = ((let told : Went = went c.sign-minus.ensures c.in-Got.is in told), called c.named-name.ensures c.in_default-name.is) in told) in rw (w.0.is, w.1.is)
+returns-in_default-name c = let w : Went × Called = (went c.sign-minus.ensures c.in-Got.is, called c.named-name.ensures c.in_default-name.is) in rw (w.0.is, w.1.is)
 
 pub returns : goal.returns
 unfolding last_month
-returns c = let w = (let told : Went × Called = ((let told : Went = went c.sign-minus.ensures c.in-Got.is in told), called c.named-name.ensures c.in-Got-name.is) in told) in rw (w.0.is, w.1.is)
+returns c = let w : Went × Called = (went c.sign-minus.ensures c.in-Got.is, called c.named-name.ensures c.in-Got-name.is) in rw (w.0.is, w.1.is)

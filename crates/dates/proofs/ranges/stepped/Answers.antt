@@ -5,12 +5,12 @@ use Rattle.dates.proofs.ranges.stepped.Goals as goal
 
 pub returns-in_default : goal.returns-in_default
 unfolding stepped
-returns-in_default c = rw ((let told : Went = went c.sign-slash.ensures c.in_default.is in told)).is
+returns-in_default c = rw (went c.sign-slash.ensures c.in_default.is).is
 
 pub returns-in_default-number : goal.returns-in_default-number
 unfolding stepped
-returns-in_default-number c = let w = (let told : Went × Was = ((let told : Went = went c.sign-slash.ensures c.in-Got.is in told), was c.count-number.ensures c.in_default-number.is) in told) in rw (w.0.is, w.1.is)
+returns-in_default-number c = let w : Went × Was = (went c.sign-slash.ensures c.in-Got.is, was c.count-number.ensures c.in_default-number.is) in rw (w.0.is, w.1.is)
 
 pub returns : goal.returns
 unfolding stepped
-returns c = let w = (let told : Went × Was = ((let told : Went = went c.sign-slash.ensures c.in-Got.is in told), was c.count-number.ensures c.in-Got-number.is) in told) in rw (w.0.is, w.1.is)
+returns c = let w : Went × Was = (went c.sign-slash.ensures c.in-Got.is, was c.count-number.ensures c.in-Got-number.is) in rw (w.0.is, w.1.is)

@@ -9,8 +9,8 @@ use Rattle.dates.proofs.weeks.week_item.Goals as goal
 
 pub returns-in_default : goal.returns-in_default
 unfolding week_item
-returns-in_default c = rw ((let told : Said RawRange = said c.week_shape-shape.ensures (ap seen_range c.in_default.is) in told)).is
+returns-in_default c = rw (said c.week_shape-shape.ensures (ap seen_range c.in_default.is)).is
 
 pub returns : goal.returns
 unfolding week_item
-returns c = meant_is _ week_shape week_meaning ((let told : Said RawRange = said c.week_shape-shape.ensures (ap seen_range c.in-Got.is) in told)).is c.week_meaning.ensures c.judged.ensures
+returns c = meant_is _ week_shape week_meaning (said c.week_shape-shape.ensures (ap seen_range c.in-Got.is)).is c.week_meaning.ensures c.judged.ensures

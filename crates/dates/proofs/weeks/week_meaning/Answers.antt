@@ -8,16 +8,16 @@ use Rattle.dates.proofs.weeks.week_meaning.Goals as goal
 
 pub returns-then-r-gt255 : goal.returns-then-r-gt255
 unfolding week_meaning
-returns-then-r-gt255 c = rw ((let told : good_range 1 53 c.args.r ≡ true = sym c.good_range.ensures ∙ c.if-good_range.true in told), lt-ltb _ _ c.if-r-gt255.true)
+returns-then-r-gt255 c = rw (sym c.good_range.ensures ∙ c.if-good_range.true, lt-ltb _ _ c.if-r-gt255.true)
 
 pub returns-then-r : goal.returns-then-r
 unfolding week_meaning
-returns-then-r c = rw ((let told : good_range 1 53 c.args.r ≡ true = sym c.good_range.ensures ∙ c.if-good_range.true in told), le-ltb _ _ c.if-r-gt255.false, lt-ltb _ _ c.if-r.true)
+returns-then-r c = rw (sym c.good_range.ensures ∙ c.if-good_range.true, le-ltb _ _ c.if-r-gt255.false, lt-ltb _ _ c.if-r.true)
 
 pub returns-else-r : goal.returns-else-r
 unfolding week_meaning
 returns-else-r c = rw (
-  (let told : good_range 1 53 c.args.r ≡ true = sym c.good_range.ensures ∙ c.if-good_range.true in told),
+  sym c.good_range.ensures ∙ c.if-good_range.true,
   le-ltb _ _ c.if-r-gt255.false,
   le-ltb _ _
       c.if-r.false,

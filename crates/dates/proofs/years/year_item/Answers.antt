@@ -9,12 +9,12 @@ use Rattle.dates.proofs.years.year_item.Goals as goal
 
 pub returns-in_default : goal.returns-in_default
 unfolding year_item year_item_after year_shape
-returns-in_default c = rw ((let told : Was = was c.year-number.ensures c.in_default.is in told)).is
+returns-in_default c = rw (was c.year-number.ensures c.in_default.is).is
 
 pub overflow_cast-first : goal.overflow_cast-first
 unfolding year_item year_item_after year_shape
-overflow_cast-first c = let w = (let told : Was = was c.year-number.ensures c.in-Got.is in told) in omega arith
+overflow_cast-first c = let w : Was = was c.year-number.ensures c.in-Got.is in omega arith
 
 pub returns : goal.returns
 unfolding year_item year_item_after year_shape
-returns c = item_after_lem year year_after year_meaning ((let told : Was = was c.year-number.ensures c.in-Got.is in told)).is ∙ c.year_item_after.ensures
+returns c = item_after_lem year year_after year_meaning (was c.year-number.ensures c.in-Got.is).is ∙ c.year_item_after.ensures

@@ -10,15 +10,15 @@ use Rattle.dates.proofs.years.year_meaning.Goals as goal
 
 pub returns-then-r : goal.returns-then-r
 unfolding year_meaning
-returns-then-r c = rw ((let told : good_range 1900 9999 c.args.r ≡ true = sym c.good_range.ensures ∙ c.if-good_range.true in told), lt-ltb _ _ c.if-r.true)
+returns-then-r c = rw (sym c.good_range.ensures ∙ c.if-good_range.true, lt-ltb _ _ c.if-r.true)
 
 pub overflow_cast-r : goal.overflow_cast-r
 unfolding year_meaning
-overflow_cast-r c = omega (arith, step_small 1900 9999 _ ((let told : good_range 1900 9999 c.args.r ≡ true = sym c.good_range.ensures ∙ c.if-good_range.true in told)))
+overflow_cast-r c = omega (arith, step_small 1900 9999 _ (sym c.good_range.ensures ∙ c.if-good_range.true))
 
 pub returns-else-r : goal.returns-else-r
 unfolding year_meaning
-returns-else-r c = rw ((let told : good_range 1900 9999 c.args.r ≡ true = sym c.good_range.ensures ∙ c.if-good_range.true in told), le-ltb _ _ c.if-r.false, c.step_of-step.ensures)
+returns-else-r c = rw (sym c.good_range.ensures ∙ c.if-good_range.true, le-ltb _ _ c.if-r.false, c.step_of-step.ensures)
 
 pub returns-else-good_range : goal.returns-else-good_range
 unfolding year_meaning

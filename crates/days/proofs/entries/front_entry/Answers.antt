@@ -10,20 +10,20 @@ returns-in_default c = rw (was c.ordinal-number.ensures c.in_default.is).is
 
 pub overflow_cast-k : goal.overflow_cast-k
 unfolding front_entry
-overflow_cast-k c = omega (arith, (let told : Was = was c.ordinal-number.ensures c.in-Got.is in told))
+overflow_cast-k c = omega (arith, was c.ordinal-number.ensures c.in-Got.is)
 
 pub returns-in_default-minus : goal.returns-in_default-minus
 unfolding front_entry
-returns-in_default-minus c = rw (((let told : Was = was c.ordinal-number.ensures c.in-Got.is in told)).is, (went c.sign-minus.ensures c.in_default-minus.is).is)
+returns-in_default-minus c = rw ((was c.ordinal-number.ensures c.in-Got.is).is, (went c.sign-minus.ensures c.in_default-minus.is).is)
 
 pub returns-in_default-second : goal.returns-in_default-second
 unfolding front_entry
-returns-in_default-second c = let w = (let told : Was × Went = ((let told : Was = was c.ordinal-number.ensures c.in-Got.is in told), went c.sign-minus.ensures c.in-Got-minus.is) in told) in rw (w.0.is, w.1.is, (was c.ordinal-second.ensures c.in_default-second.is).is)
+returns-in_default-second c = let w : Was × Went = (was c.ordinal-number.ensures c.in-Got.is, went c.sign-minus.ensures c.in-Got-minus.is) in rw (w.0.is, w.1.is, (was c.ordinal-second.ensures c.in_default-second.is).is)
 
 pub overflow_cast-result : goal.overflow_cast-result
 unfolding front_entry
-overflow_cast-result c = omega (arith, ((let told : Was × Went × Was = let w = (let told : Was × Went = ((let told : Was = was c.ordinal-number.ensures c.in-Got.is in told), went c.sign-minus.ensures c.in-Got-minus.is) in told) in (w.0, w.1, was c.ordinal-second.ensures c.in-Got-second.is) in told)).2)
+overflow_cast-result c = omega (arith, (let told : Was × Went × Was = let w : Was × Went = (was c.ordinal-number.ensures c.in-Got.is, went c.sign-minus.ensures c.in-Got-minus.is) in (w.0, w.1, was c.ordinal-second.ensures c.in-Got-second.is) in told).2)
 
 pub returns : goal.returns
 unfolding front_entry
-returns c = let w = (let told : Was × Went × Was = let w = (let told : Was × Went = ((let told : Was = was c.ordinal-number.ensures c.in-Got.is in told), went c.sign-minus.ensures c.in-Got-minus.is) in told) in (w.0, w.1, was c.ordinal-second.ensures c.in-Got-second.is) in told) in rw (w.0.is, w.1.is, w.2.is)
+returns c = let w : Was × Went × Was = let w : Was × Went = (was c.ordinal-number.ensures c.in-Got.is, went c.sign-minus.ensures c.in-Got-minus.is) in (w.0, w.1, was c.ordinal-second.ensures c.in-Got-second.is) in rw (w.0.is, w.1.is, w.2.is)

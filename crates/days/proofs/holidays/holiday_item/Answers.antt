@@ -14,8 +14,8 @@ returns-in_default c = rw (was c.name-name.ensures c.in_default.is).is
 
 pub overflow_cast-kind : goal.overflow_cast-kind
 unfolding holiday_item holiday_item_after holiday_shape
-overflow_cast-kind c = omega (arith, (let told : Was = was c.name-name.ensures c.in-Got.is in told))
+overflow_cast-kind c = omega (arith, was c.name-name.ensures c.in-Got.is)
 
 pub returns : goal.returns
 unfolding holiday_item holiday_item_after holiday_shape
-returns c = item_after_lem (names.name holiday) holiday_after holiday_meaning ((let told : Was = was c.name-name.ensures c.in-Got.is in told)).is ∙ c.holiday_item_after.ensures
+returns c = item_after_lem (names.name holiday) holiday_after holiday_meaning (was c.name-name.ensures c.in-Got.is).is ∙ c.holiday_item_after.ensures

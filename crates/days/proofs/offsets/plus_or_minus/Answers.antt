@@ -5,12 +5,12 @@ use Rattle.days.proofs.offsets.plus_or_minus.Goals as goal
 
 pub returns-in-Got : goal.returns-in-Got
 unfolding plus_or_minus
-returns-in-Got c = rw ((let told : Went = went c.sign-plus.ensures c.in-Got.is in told)).is
+returns-in-Got c = rw (went c.sign-plus.ensures c.in-Got.is).is
 
 pub returns-in_default-minus : goal.returns-in_default-minus
 unfolding plus_or_minus
-returns-in_default-minus c = let w = (let told : Went × Went = ((let told : Went = went c.sign-plus.ensures c.in_default.is in told), went c.sign-minus.ensures c.in_default-minus.is) in told) in rw (w.0.is, w.1.is)
+returns-in_default-minus c = let w : Went × Went = (went c.sign-plus.ensures c.in_default.is, went c.sign-minus.ensures c.in_default-minus.is) in rw (w.0.is, w.1.is)
 
 pub returns : goal.returns
 unfolding plus_or_minus
-returns c = let w = (let told : Went × Went = ((let told : Went = went c.sign-plus.ensures c.in_default.is in told), went c.sign-minus.ensures c.in-Got-minus.is) in told) in rw (w.0.is, w.1.is)
+returns c = let w : Went × Went = (went c.sign-plus.ensures c.in_default.is, went c.sign-minus.ensures c.in-Got-minus.is) in rw (w.0.is, w.1.is)

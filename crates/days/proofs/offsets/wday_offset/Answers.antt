@@ -14,16 +14,16 @@ returns-in_default c = rw (said c.plus_or_minus-sign.ensures (ap seen_sign c.in_
 
 pub returns-in_default-name : goal.returns-in_default-name
 unfolding wday_offset
-returns-in_default-name c = rw (((let told : Said Bool = said c.plus_or_minus-sign.ensures (ap seen_sign c.in-Got.is) in told)).is, (called c.named-name.ensures c.in_default-name.is).is)
+returns-in_default-name c = rw ((said c.plus_or_minus-sign.ensures (ap seen_sign c.in-Got.is)).is, (called c.named-name.ensures c.in_default-name.is).is)
 
 pub overflow_cast-w : goal.overflow_cast-w
 unfolding wday_offset
-overflow_cast-w c = omega (arith, ((let told : Said Bool × Called = ((let told : Said Bool = said c.plus_or_minus-sign.ensures (ap seen_sign c.in-Got.is) in told), called c.named-name.ensures c.in-Got-name.is) in told)).1)
+overflow_cast-w c = omega (arith, (let told : Said Bool × Called = (said c.plus_or_minus-sign.ensures (ap seen_sign c.in-Got.is), called c.named-name.ensures c.in-Got-name.is) in told).1)
 
 pub signed-requires : goal.signed-requires
 unfolding wday_offset
-signed-requires c = omega (arith, ((let told : Said Bool × Called = ((let told : Said Bool = said c.plus_or_minus-sign.ensures (ap seen_sign c.in-Got.is) in told), called c.named-name.ensures c.in-Got-name.is) in told)).1)
+signed-requires c = omega (arith, (let told : Said Bool × Called = (said c.plus_or_minus-sign.ensures (ap seen_sign c.in-Got.is), called c.named-name.ensures c.in-Got-name.is) in told).1)
 
 pub returns : goal.returns
 unfolding wday_offset
-returns c = let w = (let told : Said Bool × Called = ((let told : Said Bool = said c.plus_or_minus-sign.ensures (ap seen_sign c.in-Got.is) in told), called c.named-name.ensures c.in-Got-name.is) in told) in rw (w.0.is, w.1.is, half_fits c.signed.result c.signed.type_inv, c.signed.ensures)
+returns c = let w : Said Bool × Called = (said c.plus_or_minus-sign.ensures (ap seen_sign c.in-Got.is), called c.named-name.ensures c.in-Got-name.is) in rw (w.0.is, w.1.is, half_fits c.signed.result c.signed.type_inv, c.signed.ensures)

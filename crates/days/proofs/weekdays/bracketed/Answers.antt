@@ -12,12 +12,12 @@ returns-in_default c = rw (went c.sign-left.ensures c.in_default.is).is
 
 pub returns-in_default-inner : goal.returns-in_default-inner
 unfolding bracketed
-returns-in_default-inner c = rw (((let told : Went = went c.sign-left.ensures c.in-Got.is in told)).is, (said c.entries-inner.ensures (ap seen_marks c.in_default-inner.is)).is)
+returns-in_default-inner c = rw ((went c.sign-left.ensures c.in-Got.is).is, (said c.entries-inner.ensures (ap seen_marks c.in_default-inner.is)).is)
 
 pub returns-in_default-right : goal.returns-in_default-right
 unfolding bracketed
-returns-in_default-right c = let w = (let told : Went × Said Marks = ((let told : Went = went c.sign-left.ensures c.in-Got.is in told), said c.entries-inner.ensures (ap seen_marks c.in-Got-inner.is)) in told) in rw (w.0.is, w.1.is, (went c.sign-right.ensures c.in_default-right.is).is)
+returns-in_default-right c = let w : Went × Said Marks = (went c.sign-left.ensures c.in-Got.is, said c.entries-inner.ensures (ap seen_marks c.in-Got-inner.is)) in rw (w.0.is, w.1.is, (went c.sign-right.ensures c.in_default-right.is).is)
 
 pub returns : goal.returns
 unfolding bracketed
-returns c = let w = (let told : Went × Said Marks = ((let told : Went = went c.sign-left.ensures c.in-Got.is in told), said c.entries-inner.ensures (ap seen_marks c.in-Got-inner.is)) in told) in rw (w.0.is, w.1.is, (went c.sign-right.ensures c.in-Got-right.is).is)
+returns c = let w : Went × Said Marks = (went c.sign-left.ensures c.in-Got.is, said c.entries-inner.ensures (ap seen_marks c.in-Got-inner.is)) in rw (w.0.is, w.1.is, (went c.sign-right.ensures c.in-Got-right.is).is)

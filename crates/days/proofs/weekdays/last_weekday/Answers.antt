@@ -10,4 +10,4 @@ returns-in_default c = record { is = rw (went c.sign-minus.ensures c.in_default.
 
 pub returns : goal.returns
 unfolding last_weekday
-returns c = record { is = rw ((let told : Went = went c.sign-minus.ensures c.in-Got.is in told)).is c.named.ensures.is; small = c.named.ensures.small }
+returns c = record { is = rw (went c.sign-minus.ensures c.in-Got.is).is c.named.ensures.is; small = c.named.ensures.small }

@@ -16,16 +16,16 @@ no_entries first s i e = rw (e)
 
 pub returns-in-Got : goal.returns-in-Got
 unfolding narrow_after until_weekday
-returns-in-Got c = rw (((let told : Called = called c.last_weekday-name.ensures c.in-Got.is in told)).is, c.plain-range.ensures)
+returns-in-Got c = rw ((called c.last_weekday-name.ensures c.in-Got.is).is, c.plain-range.ensures)
 
 pub returns-in_default-left : goal.returns-in_default-left
 unfolding narrow_after until_weekday
-returns-in_default-left c = rw (((let told : Called = called c.last_weekday-name.ensures c.in_default.is in told)).is, no_entries (c.args.first, c.args.odd) c.args.s.now c.args.c.at (went c.sign-left.ensures c.in_default-left.is).is, c.plain-bare.ensures)
+returns-in_default-left c = rw ((called c.last_weekday-name.ensures c.in_default.is).is, no_entries (c.args.first, c.args.odd) c.args.s.now c.args.c.at (went c.sign-left.ensures c.in_default-left.is).is, c.plain-bare.ensures)
 
 pub returns-in-Got-marked : goal.returns-in-Got-marked
 unfolding narrow_after until_weekday
 returns-in-Got-marked c = rw (
-  ((let told : Called = called c.last_weekday-name.ensures c.in_default.is in told)).is,
+  (called c.last_weekday-name.ensures c.in_default.is).is,
   (said c.with_entries-marked.ensures (ap seen_weekdays
       c.in-Got-marked.is)).is,
   c.weekday_meaning-judged.ensures,
@@ -34,7 +34,7 @@ returns-in-Got-marked c = rw (
 pub returns-in-Missing : goal.returns-in-Missing
 unfolding narrow_after until_weekday
 returns-in-Missing c = rw (
-  ((let told : Called = called c.last_weekday-name.ensures c.in_default.is in told)).is,
+  (called c.last_weekday-name.ensures c.in_default.is).is,
   (said c.with_entries-marked.ensures (ap seen_weekdays
       c.in-Missing.is)).is,
   c.plain-one.ensures,

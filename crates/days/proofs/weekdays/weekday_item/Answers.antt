@@ -17,13 +17,13 @@ returns-in_default c = rw (named_none c.args.s.now c.args.c.at weekday (was c.na
 
 pub overflow_cast-first : goal.overflow_cast-first
 unfolding weekday_item weekday_item_after weekday_shape
-overflow_cast-first c = omega (arith, (let told : Was = was c.name-name.ensures c.in-Got.is in told))
+overflow_cast-first c = omega (arith, was c.name-name.ensures c.in-Got.is)
 
 pub weekday_item_after-requires : goal.weekday_item_after-requires
 unfolding weekday_item weekday_item_after weekday_shape
-weekday_item_after-requires c = let both_told = past_one (name_local weekday) ((let told : Was = was c.name-name.ensures c.in-Got.is in told)).is in record { p_lt_at = both_told.0; at_in_bounds = both_told.1 }
+weekday_item_after-requires c = let both_told = past_one (name_local weekday) (was c.name-name.ensures c.in-Got.is).is in record { p_lt_at = both_told.0; at_in_bounds = both_told.1 }
 
 pub returns : goal.returns
 unfolding weekday_item weekday_item_after weekday_shape
-returns c = item_after_lem (named weekday) (weekday_after c.args.m) weekday_meaning (named_got c.args.s.now c.args.c.at weekday ((let told : Was = was c.name-name.ensures c.in-Got.is in told)).is)
+returns c = item_after_lem (named weekday) (weekday_after c.args.m) weekday_meaning (named_got c.args.s.now c.args.c.at weekday (was c.name-name.ensures c.in-Got.is).is)
     ∙ c.weekday_item_after.ensures

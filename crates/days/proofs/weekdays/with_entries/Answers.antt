@@ -13,4 +13,4 @@ returns-in_default c = rw (said c.bracketed-inner.ensures (ap seen_marks c.in_de
 
 pub returns : goal.returns
 unfolding with_entries
-returns c = rw (((let told : Said Marks = said c.bracketed-inner.ensures (ap seen_marks c.in-Got.is) in told)).is, c.any_days-then.ensures, half_fits c.any_days-then.result.days (search rules))
+returns c = rw ((said c.bracketed-inner.ensures (ap seen_marks c.in-Got.is)).is, c.any_days-then.ensures, half_fits c.any_days-then.result.days (search rules))

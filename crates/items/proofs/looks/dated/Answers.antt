@@ -10,8 +10,8 @@ returns-in_default c = undated_blank _ _ c.requires (went c.blank-after.ensures 
 
 pub returns-in_default-name : goal.returns-in_default-name
 returns-in_default-name c = let no_name = said c.spelled-name.ensures (ap seen_spelled c.in_default-name.is) in
-    undated_name _ _ c.requires ((let told : Went = went c.blank-after.ensures c.in-Got.is in told)).is no_name.is
+    undated_name _ _ c.requires (went c.blank-after.ensures c.in-Got.is).is no_name.is
 
 pub returns : goal.returns
 returns c = let the-name = said c.spelled-name.ensures (ap seen_spelled c.in-Got-name.is) in
-    dated_is _ _ c.requires ((let told : Went = went c.blank-after.ensures c.in-Got.is in told)).is the-name.is ∙ c.month_day_item_after.ensures
+    dated_is _ _ c.requires (went c.blank-after.ensures c.in-Got.is).is the-name.is ∙ c.month_day_item_after.ensures

@@ -16,15 +16,15 @@ pub begun-item-requires : goal.begun-item-requires
 begun-item-requires c = let both_told = past_one word_local c.requires in record { at_lt_at = both_told.0; at_in_bounds = both_told.1 }
 
 pub returns-in-Got : goal.returns-in-Got
-returns-in-Got c = wished_item _ _ _ c.requires _ ((let told : wished c.args.name (kinds_of c.args.set) ≡ As c.in-As.kind = sym c.wanted_as-wish.ensures ∙ c.in-As.is in told)) (c.begun-item.ensures ∙ ap seen_item c.in-Got.is) ∙ rw c.place_of.ensures
+returns-in-Got c = wished_item _ _ _ c.requires _ (sym c.wanted_as-wish.ensures ∙ c.in-As.is) (c.begun-item.ensures ∙ ap seen_item c.in-Got.is) ∙ rw c.place_of.ensures
 
 pub returns-in-Missing : goal.returns-in-Missing
 returns-in-Missing c = (
-  wished_none _ _ _ c.requires _ ((let told : wished c.args.name (kinds_of c.args.set) ≡ As c.in-As.kind = sym c.wanted_as-wish.ensures ∙ c.in-As.is in told)) (c.begun-item.ensures
+  wished_none _ _ _ c.requires _ (sym c.wanted_as-wish.ensures ∙ c.in-As.is) (c.begun-item.ensures
       ∙ ap seen_item c.in-Missing.is),
   c.requires,
 )
 
 pub returns-in-Refused : goal.returns-in-Refused
-returns-in-Refused c = wished_refused _ _ _ c.requires _ ((let told : wished c.args.name (kinds_of c.args.set) ≡ As c.in-As.kind = sym c.wanted_as-wish.ensures ∙ c.in-As.is in told)) (c.begun-item.ensures
+returns-in-Refused c = wished_refused _ _ _ c.requires _ (sym c.wanted_as-wish.ensures ∙ c.in-As.is) (c.begun-item.ensures
     ∙ ap seen_item c.in-Refused.is)

@@ -9,10 +9,10 @@ use Rattle.items.proofs.Picks.{pick_neither, pick_yearless}
 use Rattle.items.proofs.looks.year_first.Goals as goal
 
 pub overflow_cast-y : goal.overflow_cast-y
-overflow_cast-y c = let w = (let told : Was = was c.year-number.ensures c.in-Got.is in told) in omega arith
+overflow_cast-y c = let w : Was = was c.year-number.ensures c.in-Got.is in omega arith
 
 pub with_year-requires : goal.with_year-requires
-with_year-requires c = ((let told : Was = was c.year-number.ensures c.in-Got.is in told)).is
+with_year-requires c = (was c.year-number.ensures c.in-Got.is).is
 
 pub returns-in-Missing : goal.returns-in-Missing
 returns-in-Missing c = λ m. pick_yearless _ _ _ _ (was c.year-number.ensures c.in-Missing.is).is c.requires

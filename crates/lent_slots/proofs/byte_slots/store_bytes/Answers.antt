@@ -1,9 +1,5 @@
 use borrow.Author.Rules.{rules}
-use Prim.Native.Nat.{◌+◌, ◌-◌, ◌*◌, ◌≤◌}
-use mathlib.Core.Path.{◌≡◌, refl}
-use lib.ListN.{length, drop}
-use lib.Seq.{sets}
-use Rattle.lent_slots.specs.Bytes.{record_bytes}
+use mathlib.Core.Path.{refl}
 use Rattle.lent_slots.proofs.Stores.{word_more, word_end}
 use Rattle.lent_slots.proofs.byte_slots.store_bytes.Goals as goal
 

@@ -1,10 +1,8 @@
-use borrow.Author.Rules.{rules}
 use Prim.Native.Nat.{◌+◌, ◌-◌, ◌*◌, ◌≤◌}
-use mathlib.Core.Path.{◌≡◌, refl}
+use mathlib.Core.Path.{◌≡◌}
 use lib.ListN.{length, drop}
 use lib.Seq.{sets}
 use Rattle.lent_slots.specs.Bytes.{record_bytes}
-use Rattle.lent_slots.proofs.Stores.{word_more, word_end}
 use Rattle.lent_slots.proofs.byte_slots.store_bytes.Given as goal
 
 abbrev pub invariant-loop-i : goal.invariant-loop-i

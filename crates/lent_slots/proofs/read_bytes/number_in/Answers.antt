@@ -1,5 +1,4 @@
 use Rattle.lent_slots.specs.Slots as slots
-use borrow.Author.Rules.{rules}
 use Rattle.lent_slots.proofs.read_bytes.number_in.Goals as goal
 
 pub returns : goal.returns

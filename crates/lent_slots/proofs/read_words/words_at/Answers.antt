@@ -1,10 +1,10 @@
 -- Word by word.
 use borrow.Author.Rules.{rules, sfits_of}
-use Prim.Native.Nat.{◌*◌, ◌-◌, ◌≤◌}
+use Prim.Native.Nat.{◌*◌}
 use native.Mathlib.Omega.{arith}
 use mathlib.Core.Path.{◌≡◌, refl, sym, ◌∙◌}
 use lib.IntN.{pos}
-use lib.ListN.{length, take, drop, length-set, length-drop}
+use lib.ListN.{length-set, length-drop}
 use lib.Seq.{take_all, get_or-drop}
 use mir.Syntax.{w32}
 use mir.Facts.{to_z-of_z}

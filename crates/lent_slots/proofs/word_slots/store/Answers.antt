@@ -1,9 +1,6 @@
 use borrow.Author.Rules.{rules}
 use native.Mathlib.Nat.{add-zero}
-use Prim.Native.Nat.{◌+◌, ◌-◌, ◌≤◌}
-use mathlib.Core.Path.{◌≡◌}
-use lib.ListN.{length, drop, length-set}
-use lib.Seq.{sets}
+use lib.ListN.{length-set}
 use mir.Syntax.{w32}
 use lib.IntN.{pos}
 use mir.Facts.{to_z-of_z}

@@ -1,14 +1,7 @@
-use borrow.Author.Rules.{rules}
-use native.Mathlib.Nat.{add-zero}
 use Prim.Native.Nat.{◌+◌, ◌-◌, ◌≤◌}
 use mathlib.Core.Path.{◌≡◌}
-use lib.ListN.{length, drop, length-set}
+use lib.ListN.{length, drop}
 use lib.Seq.{sets}
-use mir.Syntax.{w32}
-use lib.IntN.{pos}
-use mir.Facts.{to_z-of_z}
-use borrow.Author.Rules.{sfits_of}
-use Rattle.lent_slots.proofs.Stores.{more, end}
 use Rattle.lent_slots.proofs.word_slots.store.Given as goal
 
 abbrev pub invariant-loop-i : goal.invariant-loop-i

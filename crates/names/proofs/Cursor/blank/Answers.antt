@@ -1,4 +1,3 @@
-use borrow.Author.Rules.{rules}
 use Rattle.names.specs.Texts.{blank}
 use Rattle.names.proofs.Facts.{Went, went}
 use Rattle.names.proofs.Cursor.blank.Goals as goal

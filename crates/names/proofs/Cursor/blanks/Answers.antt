@@ -1,6 +1,5 @@
 use Prim.Native.Nat.{ℕ}
 use mathlib.Core.Bool.{Bool}
-use borrow.Author.Rules.{rules}
 use mathlib.Core.Path.{ap, ◌∙◌, fun_ext}
 use Rattle.names.specs.Chain.{skip}
 use Rattle.names.specs.Texts.{blanks}

@@ -1,4 +1,3 @@
-use borrow.Author.Rules.{rules}
 use mathlib.Core.Path.{sym, ◌∙◌}
 use Rattle.names.specs.Numbers.{is_digit, clock_after}
 use Rattle.names.proofs.Facts.{Went, went}

@@ -1,8 +1,6 @@
 use Prim.Native.Nat.{ℕ, ◌-◌, ◌≤◌, ◌<◌, ◌^◌}
-use borrow.Author.Rules.{rules}
 use native.Mathlib.Omega.{arith}
-use mathlib.Core.Path.{◌≡◌, sym, ◌∙◌}
-use Rattle.names.specs.Numbers.{up_to, digits}
+use mathlib.Core.Path.{sym, ◌∙◌}
 use Rattle.names.proofs.Facts.{Was, was}
 use Rattle.names.proofs.Digits.{digits_start, digit_more, digit_none, digits_full, grown, below, enough_small}
 use Rattle.names.proofs.Cursor.digits.Goals as goal

@@ -1,5 +1,4 @@
 -- Its lists of names, one after another, are the group of the definition.
-use borrow.Author.Rules.{rules}
 use mathlib.Core.Path.{refl}
 use Rattle.names.specs.Tests.{within}
 use Rattle.names.specs.Names.{spelled_so}

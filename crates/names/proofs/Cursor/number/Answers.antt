@@ -1,4 +1,3 @@
-use borrow.Author.Rules.{rules}
 use native.Mathlib.Omega.{arith}
 use Rattle.names.specs.Numbers.{number}
 use Rattle.names.proofs.Facts.{Was, was, Went, went}

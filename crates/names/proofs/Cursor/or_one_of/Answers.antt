@@ -1,11 +1,9 @@
 -- What is left to search gives what the whole search gives.
-use Prim.Native.Nat.{◌+◌, ◌-◌}
-use borrow.Author.Rules.{rules}
+use Prim.Native.Nat.{◌+◌}
 use native.Mathlib.Omega.{arith}
 use mathlib.Core.Path.{sym, ap, ◌∙◌}
-use lib.ListN.{length}
 use Rattle.names.specs.Table.{compared}
-use Rattle.names.proofs.Lists.{Left, start, over, Within, enter, ended, same, other}
+use Rattle.names.proofs.Lists.{Left, start, over, enter, ended, same, other}
 use Rattle.names.proofs.Cursor.or_one_of.Goals as goal
 
 pub returns-in_default : goal.returns-in_default

@@ -1,11 +1,7 @@
 -- What is left to search gives what the whole search gives.
 use Prim.Native.Nat.{◌+◌, ◌-◌}
-use borrow.Author.Rules.{rules}
-use native.Mathlib.Omega.{arith}
-use mathlib.Core.Path.{sym, ap, ◌∙◌}
 use lib.ListN.{length}
-use Rattle.names.specs.Table.{compared}
-use Rattle.names.proofs.Lists.{Left, start, over, Within, enter, ended, same, other}
+use Rattle.names.proofs.Lists.{Left, Within}
 use Rattle.names.proofs.Cursor.or_one_of.Given as goal
 
 -- the first j letters of the name that is written at `from` stand here

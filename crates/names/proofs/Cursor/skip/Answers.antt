@@ -1,9 +1,6 @@
-use Prim.Native.Nat.{◌-◌}
-use borrow.Author.Rules.{rules}
 use native.Mathlib.Omega.{arith}
 use native.Mathlib.Numerals.{add-one}
-use mathlib.Core.Path.{◌≡◌, refl, sym, ap, ◌∙◌}
-use lib.ListN.{length}
+use mathlib.Core.Path.{refl, sym, ap, ◌∙◌}
 use Rattle.names.specs.Tests.{within}
 use Rattle.names.specs.Chain.{skip}
 use Rattle.names.proofs.Laws.{within_true, within_below, within_above}

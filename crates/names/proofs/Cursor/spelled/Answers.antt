@@ -1,4 +1,3 @@
-use borrow.Author.Rules.{rules}
 use Rattle.names.specs.Spellings as spellings
 use Rattle.names.proofs.Facts.{Named, named}
 use Rattle.names.proofs.Local.{past_one}

@@ -1,4 +1,3 @@
-use borrow.Author.Rules.{rules}
 use Rattle.names.proofs.Facts.{named}
 use Rattle.names.proofs.Search.{two_or_more}
 use Rattle.names.proofs.Cursor.two_or_more.Goals as goal

@@ -1,11 +1,7 @@
 -- What was passed is small letters.
-use Prim.Native.Nat.{◌-◌}
-use borrow.Author.Rules.{rules}
 use native.Mathlib.Omega.{arith}
 use native.Mathlib.Numerals.{add-one}
-use mathlib.Core.Path.{◌≡◌, refl, sym, ap, ◌∙◌}
-use lib.Seq.{slice}
-use Rattle.names.specs.Spellings.{all_small}
+use mathlib.Core.Path.{refl, sym, ◌∙◌}
 use Rattle.names.proofs.Odd.{small_none, small_more, small_stop}
 use Rattle.names.proofs.spellings.all_small.Goals as goal
 

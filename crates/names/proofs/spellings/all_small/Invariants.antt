@@ -1,12 +1,8 @@
 -- What was passed is small letters.
 use Prim.Native.Nat.{◌-◌}
-use borrow.Author.Rules.{rules}
-use native.Mathlib.Omega.{arith}
-use native.Mathlib.Numerals.{add-one}
-use mathlib.Core.Path.{◌≡◌, refl, sym, ap, ◌∙◌}
+use mathlib.Core.Path.{◌≡◌}
 use lib.Seq.{slice}
 use Rattle.names.specs.Spellings.{all_small}
-use Rattle.names.proofs.Odd.{small_none, small_more, small_stop}
 use Rattle.names.proofs.spellings.all_small.Given as goal
 
 abbrev pub invariant-loop-i : goal.invariant-loop-i

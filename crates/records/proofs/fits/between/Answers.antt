@@ -1,5 +1,4 @@
 use Rattle.records.proofs.WordLaws.{between_on, between_off}
-use borrow.Author.Rules.{rules}
 use Rattle.records.proofs.fits.between.Goals as goal
 
 pub returns-then-lo-x : goal.returns-then-lo-x

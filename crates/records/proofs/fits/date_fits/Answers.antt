@@ -1,7 +1,6 @@
 use Rattle.records.specs.Fits as fits
 use mir.Syntax.{w32}
 use mir.Facts.{to_z-of_z}
-use borrow.Author.Rules.{rules}
 use Rattle.records.proofs.fits.date_fits.Goals as goal
 
 pub returns : goal.returns

@@ -1,12 +1,10 @@
-use mathlib.Core.Bool.{Bool, true, ◌&&◌}
 use mathlib.Core.List.{[], ◌∷◌}
-use mathlib.Core.Path.{ap, ◌∙◌}
+use mathlib.Core.Path.{◌∙◌}
 use Rattle.records.specs.Fits.{passes}
 use Rattle.records.proofs.Tests.{chain}
 use native.Mathlib.Numerals.{towards_suc}
 use mir.Syntax.{w32}
 use mir.Facts.{to_z-of_z}
-use borrow.Author.Rules.{rules}
 use Rattle.records.proofs.fits.fixed_fits.Goals as goal
 
 pub returns : goal.returns

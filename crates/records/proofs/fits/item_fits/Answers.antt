@@ -1,11 +1,10 @@
 use mathlib.Core.Path.{sym, ◌∙◌}
 use Rattle.records.specs.Fits.{item_fits}
-use borrow.Author.Rules.{rules}
 use Rattle.records.proofs.fits.item_fits.Goals as goal
 
 pub returns-then-between : goal.returns-then-between
 unfolding item_fits
-returns-then-between c = rw ((sym c.between.ensures ∙ c.if-between.true)) c.years_fit.ensures
+returns-then-between c = rw (sym c.between.ensures ∙ c.if-between.true) c.years_fit.ensures
 
 pub returns-then-between-2 : goal.returns-then-between-2
 unfolding item_fits

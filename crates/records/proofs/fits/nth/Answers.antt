@@ -1,5 +1,4 @@
 use Rattle.records.specs.Ranges as ranges
-use borrow.Author.Rules.{rules}
 use Rattle.records.proofs.fits.nth.Goals as goal
 
 pub returns : goal.returns

@@ -1,9 +1,7 @@
-use mathlib.Core.Bool.{Bool, true, ◌&&◌}
 use mathlib.Core.List.{[], ◌∷◌}
-use mathlib.Core.Path.{ap, ◌∙◌}
+use mathlib.Core.Path.{◌∙◌}
 use Rattle.records.specs.Fits.{passes}
 use Rattle.records.proofs.Tests.{chain}
-use borrow.Author.Rules.{rules}
 use Rattle.records.proofs.fits.tail_fits.Goals as goal
 
 pub returns : goal.returns

@@ -4,7 +4,6 @@ use mir.Syntax.{w32}
 use mir.Facts.{to_z-of_z}
 use Rattle.records.specs.Fits.{passes, time_fits}
 use Rattle.records.proofs.Tests.{two_pairs}
-use borrow.Author.Rules.{rules}
 use Rattle.records.proofs.fits.time_fits.Goals as goal
 
 pub returns : goal.returns

@@ -1,6 +1,5 @@
 use Rattle.records.specs.Fits.{word_at}
 use Rattle.records.proofs.WordLaws.{up_is}
-use borrow.Author.Rules.{rules}
 use Rattle.records.proofs.fits.up.Goals as goal
 
 pub returns : goal.returns

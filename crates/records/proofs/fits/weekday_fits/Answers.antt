@@ -1,10 +1,8 @@
-use mathlib.Core.Bool.{Bool, true, ◌&&◌}
 use mathlib.Core.List.{[], ◌∷◌}
-use mathlib.Core.Path.{ap, ◌∙◌}
+use mathlib.Core.Path.{◌∙◌}
 use Rattle.records.specs.Fits.{passes}
 use Rattle.records.proofs.Tests.{chain}
 use native.Mathlib.Numerals.{towards_suc}
-use borrow.Author.Rules.{rules}
 use Rattle.records.proofs.fits.weekday_fits.Goals as goal
 
 pub returns : goal.returns

@@ -1,9 +1,8 @@
-use mathlib.Core.Bool.{Bool, true, ◌&&◌}
+use mathlib.Core.Bool.{Bool, ◌&&◌}
 use mathlib.Core.List.{[], ◌∷◌}
 use mathlib.Core.Path.{ap, ◌∙◌}
 use Rattle.records.specs.Fits.{passes}
 use Rattle.records.proofs.Tests.{chain}
-use borrow.Author.Rules.{rules}
 use Rattle.records.proofs.fits.weekdays_fit.Goals as goal
 
 pub returns : goal.returns

@@ -1,4 +1,3 @@
-use borrow.Author.Rules.{rules}
 use Rattle.records.proofs.Laws.{half, minus_fits, minus_half}
 use Rattle.records.proofs.judging.signed.Goals as goal
 

@@ -1,4 +1,3 @@
-use borrow.Author.Rules.{rules}
 use Rattle.records.proofs.kept.keep_head.Goals as goal
 
 pub returns : goal.returns

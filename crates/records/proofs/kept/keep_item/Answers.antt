@@ -1,4 +1,3 @@
-use borrow.Author.Rules.{rules}
 use Rattle.records.specs.Words.{words_of}
 use Rattle.records.proofs.kept.keep_item.Goals as goal
 

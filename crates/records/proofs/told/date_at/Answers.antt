@@ -1,6 +1,4 @@
 use Rattle.records.specs.Told as told
-use Prim.Native.Nat.{◌+◌}
-use borrow.Author.Rules.{rules}
 use Rattle.records.proofs.told.date_at.Goals as goal
 
 pub returns : goal.returns

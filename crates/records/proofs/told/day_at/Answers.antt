@@ -2,7 +2,6 @@ use mathlib.Core.Path.{sym, ◌∙◌}
 use Prim.Native.Nat.{◌+◌}
 use Rattle.records.proofs.WordLaws.{signed_back}
 use Rattle.records.specs.Told as told
-use borrow.Author.Rules.{rules}
 use Rattle.records.proofs.told.day_at.Goals as goal
 
 pub returns-then-between : goal.returns-then-between

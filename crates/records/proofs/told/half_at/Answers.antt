@@ -2,7 +2,6 @@ use mathlib.Core.Path.{sym, ◌∙◌}
 use native.Mathlib.Omega.{arith}
 use Rattle.records.specs.Fits.{word_at}
 use Rattle.records.proofs.WordLaws.{number_fits_lem, number_on, number_off}
-use borrow.Author.Rules.{rules}
 use Rattle.records.proofs.told.half_at.Goals as goal
 
 pub overflow_cast-result : goal.overflow_cast-result

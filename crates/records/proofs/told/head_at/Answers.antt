@@ -1,4 +1,3 @@
-use borrow.Author.Rules.{rules}
 use Rattle.records.specs.Told.{head_at}
 use Rattle.records.proofs.told.head_at.Goals as goal
 

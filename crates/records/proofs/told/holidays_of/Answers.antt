@@ -1,5 +1,4 @@
 use Rattle.records.proofs.WordLaws.{signed_back}
-use borrow.Author.Rules.{rules}
 use Rattle.records.proofs.told.holidays_of.Goals as goal
 
 pub returns : goal.returns

@@ -1,7 +1,5 @@
 use mathlib.Core.Path.{sym, ◌∙◌}
-use Prim.Native.Nat.{◌+◌}
 use Rattle.records.specs.Told as told
-use borrow.Author.Rules.{rules}
 use Rattle.records.proofs.told.item_in.Goals as goal
 
 pub returns-then-item_fits : goal.returns-then-item_fits

@@ -1,12 +1,10 @@
 use mathlib.Core.Path.{sym, ◌∙◌}
-use Prim.Native.Nat.{◌+◌}
 use Rattle.records.specs.Told as told
-use borrow.Author.Rules.{rules}
 use Rattle.records.proofs.told.item_of.Goals as goal
 
 pub returns-then-between : goal.returns-then-between
 unfolding told.candidate
-returns-then-between c = rw ((sym c.between.ensures ∙ c.if-between.true)) c.years_of.ensures
+returns-then-between c = rw (sym c.between.ensures ∙ c.if-between.true) c.years_of.ensures
 
 pub returns-then-between-2 : goal.returns-then-between-2
 unfolding told.candidate

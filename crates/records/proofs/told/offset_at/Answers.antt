@@ -1,7 +1,6 @@
 use Rattle.records.proofs.WordLaws.{signed_back}
 use Rattle.records.specs.Told as told
 use Prim.Native.Nat.{◌+◌}
-use borrow.Author.Rules.{rules}
 use Rattle.records.proofs.told.offset_at.Goals as goal
 
 pub returns : goal.returns

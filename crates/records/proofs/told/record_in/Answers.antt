@@ -1,4 +1,3 @@
-use borrow.Author.Rules.{rules}
 use Rattle.records.specs.Told.{record_in}
 use Rattle.records.proofs.told.record_in.Goals as goal
 

@@ -1,7 +1,5 @@
 use mathlib.Core.Path.{sym, ◌∙◌}
-use Prim.Native.Nat.{◌+◌}
 use Rattle.records.specs.Told as told
-use borrow.Author.Rules.{rules}
 use Rattle.records.proofs.told.repeat_at.Goals as goal
 
 pub returns-then-up : goal.returns-then-up

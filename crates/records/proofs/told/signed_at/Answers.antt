@@ -1,6 +1,5 @@
 use mathlib.Core.Path.{sym, ◌∙◌}
 use Rattle.records.proofs.WordLaws.{signed_fits, signed_on, signed_off}
-use borrow.Author.Rules.{rules}
 use Rattle.records.proofs.told.signed_at.Goals as goal
 
 pub overflow_cast-result : goal.overflow_cast-result

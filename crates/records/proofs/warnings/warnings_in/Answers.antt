@@ -1,4 +1,3 @@
-use borrow.Author.Rules.{rules}
 use Rattle.records.specs.Warnings.{item_warnings}
 use Rattle.records.proofs.warnings.warnings_in.Goals as goal
 

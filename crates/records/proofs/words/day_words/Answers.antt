@@ -1,4 +1,3 @@
-use borrow.Author.Rules.{rules}
 use native.Mathlib.Omega.{arith}
 use Rattle.records.proofs.Laws.{word, wide_fits, wide_word}
 use Rattle.records.proofs.words.day_words.Goals as goal

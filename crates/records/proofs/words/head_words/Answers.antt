@@ -1,4 +1,3 @@
-use borrow.Author.Rules.{rules}
 use native.Mathlib.Omega.{arith}
 use Rattle.records.specs.Words.{head_words}
 use Rattle.records.proofs.Laws.{word}

@@ -1,4 +1,3 @@
-use borrow.Author.Rules.{rules}
 use native.Mathlib.Omega.{arith}
 use Rattle.records.specs.Words.{words_of}
 use Rattle.records.proofs.Laws.{word, wide_fits, wide_word}

@@ -1,4 +1,3 @@
-use borrow.Author.Rules.{rules}
 use native.Mathlib.Omega.{arith}
 use Rattle.records.proofs.Laws.{word}
 use Rattle.records.proofs.words.repeat_word.Goals as goal

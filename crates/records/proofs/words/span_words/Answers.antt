@@ -1,4 +1,3 @@
-use borrow.Author.Rules.{rules}
 use Rattle.records.specs.Words.{words_of}
 use Rattle.records.proofs.Laws.{word_fits}
 use Rattle.records.proofs.words.span_words.Goals as goal

@@ -1,4 +1,3 @@
-use borrow.Author.Rules.{rules}
 use native.Mathlib.Omega.{arith}
 use Rattle.records.proofs.Laws.{word, word_fits}
 use Rattle.records.proofs.words.three.Goals as goal

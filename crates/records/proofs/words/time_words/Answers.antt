@@ -1,5 +1,4 @@
 -- A clock time's kind is 0, an event's its number.
-use borrow.Author.Rules.{rules}
 use native.Mathlib.Omega.{arith}
 use Rattle.records.proofs.Laws.{word, wide_fits, wide_word}
 use Rattle.records.proofs.words.time_words.Goals as goal

@@ -11,8 +11,8 @@ returns-in_default c = rw (went c.sign-right.ensures c.in_default.is).is
 
 pub returns-then-end-start : goal.returns-then-end-start
 unfolding closed
-returns-then-end-start c = rw (((let told : Went = went c.sign-right.ensures c.in-Got.is in told)).is, le-ltb c.args.start c.args.c.at (omega (arith, c.if-end-start.true)))
+returns-then-end-start c = rw ((went c.sign-right.ensures c.in-Got.is).is, le-ltb c.args.start c.args.c.at (omega (arith, c.if-end-start.true)))
 
 pub returns : goal.returns
 unfolding closed
-returns c = rw (((let told : Went = went c.sign-right.ensures c.in-Got.is in told)).is, lt-ltb _ _ c.if-end-start.false)
+returns c = rw ((went c.sign-right.ensures c.in-Got.is).is, lt-ltb _ _ c.if-end-start.false)

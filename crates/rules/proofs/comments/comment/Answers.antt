@@ -13,9 +13,9 @@ returns-in_default c = rw (went c.sign-left.ensures c.in_default.is).is
 pub returns-in-Missing : goal.returns-in-Missing
 unfolding comment
 returns-in-Missing c = let not-closed = said c.closed-good.ensures (ap seen_comment c.in-Missing.is) in
-    rw (((let told : Went = went c.sign-left.ensures c.in-Got.is in told)).is, c.letters-e.ensures, not-closed.is) c.ill_formed.ensures
+    rw ((went c.sign-left.ensures c.in-Got.is).is, c.letters-e.ensures, not-closed.is) c.ill_formed.ensures
 
 pub returns-in_default-good : goal.returns-in_default-good
 unfolding comment
 returns-in_default-good c = let stays = comment_stays c.closed-good.result c.in_default-good.not-Missing c.args.s.now c.letters-e.result.at (ill_formed c.args.c.at) in
-    rw (((let told : Went = went c.sign-left.ensures c.in-Got.is in told)).is, c.letters-e.ensures, c.closed-good.ensures) stays
+    rw ((went c.sign-left.ensures c.in-Got.is).is, c.letters-e.ensures, c.closed-good.ensures) stays

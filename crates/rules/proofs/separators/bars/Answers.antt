@@ -5,8 +5,8 @@ use Rattle.rules.proofs.separators.bars.Goals as goal
 
 pub returns-in_default : goal.returns-in_default
 unfolding bars
-returns-in_default c = rw (((let told : Went = went c.sign-bar.ensures c.in_default.is in told)).is, c.in_default.is)
+returns-in_default c = rw ((went c.sign-bar.ensures c.in_default.is).is, c.in_default.is)
 
 pub returns : goal.returns
 unfolding bars
-returns c = rw ((let told : Went = went c.sign-bar.ensures c.in-Got.is in told)).is c.sign.ensures
+returns c = rw (went c.sign-bar.ensures c.in-Got.is).is c.sign.ensures

@@ -8,7 +8,7 @@ use Rattle.text_rules.proofs.Fills.{opening_refused}
 use Rattle.text_rules.proofs.rule.fill_rule.Goals as goal
 
 pub fill_pieces-requires : goal.fill_pieces-requires
-fill_pieces-requires c = (c.requires.s_len_bound, c.requires.slot_bound, ((let told : Said Opening = said c.begin-o.ensures (ap seen_opening c.in-Got.is) in told)).is)
+fill_pieces-requires c = (c.requires.s_len_bound, c.requires.slot_bound, (said c.begin-o.ensures (ap seen_opening c.in-Got.is)).is)
 
 pub shape_of-words : goal.shape_of-words
 shape_of-words c = c.words-1.given
@@ -20,4 +20,4 @@ pub returns-in-Got : goal.returns-in-Got
 returns-in-Got c = c.fill_pieces.ensures
 
 pub returns-in-Refused : goal.returns-in-Refused
-returns-in-Refused c = opening_refused _ _ _ _ _ _ ((let told : Said Opening = said c.begin-o.ensures (ap seen_opening c.in-Refused.is) in told)).is
+returns-in-Refused c = opening_refused _ _ _ _ _ _ (said c.begin-o.ensures (ap seen_opening c.in-Refused.is)).is

@@ -26,24 +26,24 @@ fill_rule-r-requires c = record { s_len_bound = c.requires; slot_bound = c.loop-
 pub overflow_add-slot : goal.overflow_add-slot
 overflow_add-slot c = omega (
   arith,
-  ((subst ((λ (n : Next). Turned c.args.m ((let told : Tables = (c.loop-items.words, c.loop-items.bytes) in told)) ((let told : Tables = (c.fill_rule-r.new.words, c.fill_rule-r.new.bytes) in told)) c.loop-items.slot c.loop-items.separator c.args.s.now c.loop-items.at c.in-Got.items c.in-Got.warnings c.in-Got.first n c.in-Got-after.e.at)) refl (turned _ _ _ _ _ _ _ ((subst ((λ (x : Parted). map (both (rule_kept c.args.m ((let told : Tables = (c.loop-items.words, c.loop-items.bytes) in told)) c.loop-items.slot)) (more_rules c.args.m (Another c.loop-items.separator)) c.args.s.now c.loop-items.at
-      ≡ follow c.args.s.now c.loop-items.at (seen_parted x) (λ y. pure (both {B = Known × Tables} (λ _. ((c.in-Got.items, c.in-Got.warnings, c.in-Got.first), (let told : Tables = (c.fill_rule-r.new.words, c.fill_rule-r.new.bytes) in told))) y)) nothing)) c.in-Got-after.is (step_parted _ ((let told : Tables = (c.loop-items.words, c.loop-items.bytes) in told)) ((let told : Tables = (c.fill_rule-r.new.words, c.fill_rule-r.new.bytes) in told)) _ _ _ _ (c.in-Got.items, c.in-Got.warnings, c.in-Got.first) c.in-Got.d c.parted-after.result c.blanks-c.ensures
-      ((c.fill_rule-r.ensures ∙ ap (λ (y : RuleRead). seen_rule_into y ((let told : Tables = (c.fill_rule-r.new.words, c.fill_rule-r.new.bytes) in told))) c.in-Got.is)) c.parted-after.ensures)))))).later,
-  ((subst ((λ (n : Next). Turned c.args.m ((let told : Tables = (c.loop-items.words, c.loop-items.bytes) in told)) ((let told : Tables = (c.fill_rule-r.new.words, c.fill_rule-r.new.bytes) in told)) c.loop-items.slot c.loop-items.separator c.args.s.now c.loop-items.at c.in-Got.items c.in-Got.warnings c.in-Got.first n c.in-Got-after.e.at)) refl (turned _ _ _ _ _ _ _ ((subst ((λ (x : Parted). map (both (rule_kept c.args.m ((let told : Tables = (c.loop-items.words, c.loop-items.bytes) in told)) c.loop-items.slot)) (more_rules c.args.m (Another c.loop-items.separator)) c.args.s.now c.loop-items.at
-      ≡ follow c.args.s.now c.loop-items.at (seen_parted x) (λ y. pure (both {B = Known × Tables} (λ _. ((c.in-Got.items, c.in-Got.warnings, c.in-Got.first), (let told : Tables = (c.fill_rule-r.new.words, c.fill_rule-r.new.bytes) in told))) y)) nothing)) c.in-Got-after.is (step_parted _ ((let told : Tables = (c.loop-items.words, c.loop-items.bytes) in told)) ((let told : Tables = (c.fill_rule-r.new.words, c.fill_rule-r.new.bytes) in told)) _ _ _ _ (c.in-Got.items, c.in-Got.warnings, c.in-Got.first) c.in-Got.d c.parted-after.result c.blanks-c.ensures
-      ((c.fill_rule-r.ensures ∙ ap (λ (y : RuleRead). seen_rule_into y ((let told : Tables = (c.fill_rule-r.new.words, c.fill_rule-r.new.bytes) in told))) c.in-Got.is)) c.parted-after.ensures)))))).stays,
+  (subst (λ (n : Next). Turned c.args.m (c.loop-items.words, c.loop-items.bytes) (c.fill_rule-r.new.words, c.fill_rule-r.new.bytes) c.loop-items.slot c.loop-items.separator c.args.s.now c.loop-items.at c.in-Got.items c.in-Got.warnings c.in-Got.first n c.in-Got-after.e.at) refl (turned _ _ _ _ _ _ _ (subst (λ (x : Parted). map (both (rule_kept c.args.m (c.loop-items.words, c.loop-items.bytes) c.loop-items.slot)) (more_rules c.args.m (Another c.loop-items.separator)) c.args.s.now c.loop-items.at
+      ≡ follow c.args.s.now c.loop-items.at (seen_parted x) (λ y. pure (both {B = Known × Tables} (λ _. ((c.in-Got.items, c.in-Got.warnings, c.in-Got.first), (c.fill_rule-r.new.words, c.fill_rule-r.new.bytes))) y)) nothing) c.in-Got-after.is (step_parted _ (c.loop-items.words, c.loop-items.bytes) (c.fill_rule-r.new.words, c.fill_rule-r.new.bytes) _ _ _ _ (c.in-Got.items, c.in-Got.warnings, c.in-Got.first) c.in-Got.d c.parted-after.result c.blanks-c.ensures
+      (c.fill_rule-r.ensures ∙ ap (λ (y : RuleRead). seen_rule_into y (c.fill_rule-r.new.words, c.fill_rule-r.new.bytes)) c.in-Got.is) c.parted-after.ensures)))).later,
+  (subst (λ (n : Next). Turned c.args.m (c.loop-items.words, c.loop-items.bytes) (c.fill_rule-r.new.words, c.fill_rule-r.new.bytes) c.loop-items.slot c.loop-items.separator c.args.s.now c.loop-items.at c.in-Got.items c.in-Got.warnings c.in-Got.first n c.in-Got-after.e.at) refl (turned _ _ _ _ _ _ _ (subst (λ (x : Parted). map (both (rule_kept c.args.m (c.loop-items.words, c.loop-items.bytes) c.loop-items.slot)) (more_rules c.args.m (Another c.loop-items.separator)) c.args.s.now c.loop-items.at
+      ≡ follow c.args.s.now c.loop-items.at (seen_parted x) (λ y. pure (both {B = Known × Tables} (λ _. ((c.in-Got.items, c.in-Got.warnings, c.in-Got.first), (c.fill_rule-r.new.words, c.fill_rule-r.new.bytes))) y)) nothing) c.in-Got-after.is (step_parted _ (c.loop-items.words, c.loop-items.bytes) (c.fill_rule-r.new.words, c.fill_rule-r.new.bytes) _ _ _ _ (c.in-Got.items, c.in-Got.warnings, c.in-Got.first) c.in-Got.d c.parted-after.result c.blanks-c.ensures
+      (c.fill_rule-r.ensures ∙ ap (λ (y : RuleRead). seen_rule_into y (c.fill_rule-r.new.words, c.fill_rule-r.new.bytes)) c.in-Got.is) c.parted-after.ensures)))).stays,
   c.requires,
 )
 
 pub overflow_add-slot-in-Got-after : goal.overflow_add-slot-in-Got-after
 overflow_add-slot-in-Got-after c = omega (
   arith,
-  ((subst ((λ (n : Next). Turned c.args.m ((let told : Tables = (c.loop-items.words, c.loop-items.bytes) in told)) ((let told : Tables = (c.fill_rule-r.new.words, c.fill_rule-r.new.bytes) in told)) c.loop-items.slot c.loop-items.separator c.args.s.now c.loop-items.at c.in-Got.items c.in-Got.warnings c.in-Got.first n c.in-Got-after.e.at)) refl (turned _ _ _ _ _ _ _ ((subst ((λ (x : Parted). map (both (rule_kept c.args.m ((let told : Tables = (c.loop-items.words, c.loop-items.bytes) in told)) c.loop-items.slot)) (more_rules c.args.m (Another c.loop-items.separator)) c.args.s.now c.loop-items.at
-      ≡ follow c.args.s.now c.loop-items.at (seen_parted x) (λ y. pure (both {B = Known × Tables} (λ _. ((c.in-Got.items, c.in-Got.warnings, c.in-Got.first), (let told : Tables = (c.fill_rule-r.new.words, c.fill_rule-r.new.bytes) in told))) y)) nothing)) c.in-Got-after.is (step_parted _ ((let told : Tables = (c.loop-items.words, c.loop-items.bytes) in told)) ((let told : Tables = (c.fill_rule-r.new.words, c.fill_rule-r.new.bytes) in told)) _ _ _ _ (c.in-Got.items, c.in-Got.warnings, c.in-Got.first) c.in-Got.d c.parted-after.result c.blanks-c.ensures
-      ((c.fill_rule-r.ensures ∙ ap (λ (y : RuleRead). seen_rule_into y ((let told : Tables = (c.fill_rule-r.new.words, c.fill_rule-r.new.bytes) in told))) c.in-Got.is)) c.parted-after.ensures)))))).later,
-  ((subst ((λ (n : Next). Turned c.args.m ((let told : Tables = (c.loop-items.words, c.loop-items.bytes) in told)) ((let told : Tables = (c.fill_rule-r.new.words, c.fill_rule-r.new.bytes) in told)) c.loop-items.slot c.loop-items.separator c.args.s.now c.loop-items.at c.in-Got.items c.in-Got.warnings c.in-Got.first n c.in-Got-after.e.at)) refl (turned _ _ _ _ _ _ _ ((subst ((λ (x : Parted). map (both (rule_kept c.args.m ((let told : Tables = (c.loop-items.words, c.loop-items.bytes) in told)) c.loop-items.slot)) (more_rules c.args.m (Another c.loop-items.separator)) c.args.s.now c.loop-items.at
-      ≡ follow c.args.s.now c.loop-items.at (seen_parted x) (λ y. pure (both {B = Known × Tables} (λ _. ((c.in-Got.items, c.in-Got.warnings, c.in-Got.first), (let told : Tables = (c.fill_rule-r.new.words, c.fill_rule-r.new.bytes) in told))) y)) nothing)) c.in-Got-after.is (step_parted _ ((let told : Tables = (c.loop-items.words, c.loop-items.bytes) in told)) ((let told : Tables = (c.fill_rule-r.new.words, c.fill_rule-r.new.bytes) in told)) _ _ _ _ (c.in-Got.items, c.in-Got.warnings, c.in-Got.first) c.in-Got.d c.parted-after.result c.blanks-c.ensures
-      ((c.fill_rule-r.ensures ∙ ap (λ (y : RuleRead). seen_rule_into y ((let told : Tables = (c.fill_rule-r.new.words, c.fill_rule-r.new.bytes) in told))) c.in-Got.is)) c.parted-after.ensures)))))).stays,
+  (subst (λ (n : Next). Turned c.args.m (c.loop-items.words, c.loop-items.bytes) (c.fill_rule-r.new.words, c.fill_rule-r.new.bytes) c.loop-items.slot c.loop-items.separator c.args.s.now c.loop-items.at c.in-Got.items c.in-Got.warnings c.in-Got.first n c.in-Got-after.e.at) refl (turned _ _ _ _ _ _ _ (subst (λ (x : Parted). map (both (rule_kept c.args.m (c.loop-items.words, c.loop-items.bytes) c.loop-items.slot)) (more_rules c.args.m (Another c.loop-items.separator)) c.args.s.now c.loop-items.at
+      ≡ follow c.args.s.now c.loop-items.at (seen_parted x) (λ y. pure (both {B = Known × Tables} (λ _. ((c.in-Got.items, c.in-Got.warnings, c.in-Got.first), (c.fill_rule-r.new.words, c.fill_rule-r.new.bytes))) y)) nothing) c.in-Got-after.is (step_parted _ (c.loop-items.words, c.loop-items.bytes) (c.fill_rule-r.new.words, c.fill_rule-r.new.bytes) _ _ _ _ (c.in-Got.items, c.in-Got.warnings, c.in-Got.first) c.in-Got.d c.parted-after.result c.blanks-c.ensures
+      (c.fill_rule-r.ensures ∙ ap (λ (y : RuleRead). seen_rule_into y (c.fill_rule-r.new.words, c.fill_rule-r.new.bytes)) c.in-Got.is) c.parted-after.ensures)))).later,
+  (subst (λ (n : Next). Turned c.args.m (c.loop-items.words, c.loop-items.bytes) (c.fill_rule-r.new.words, c.fill_rule-r.new.bytes) c.loop-items.slot c.loop-items.separator c.args.s.now c.loop-items.at c.in-Got.items c.in-Got.warnings c.in-Got.first n c.in-Got-after.e.at) refl (turned _ _ _ _ _ _ _ (subst (λ (x : Parted). map (both (rule_kept c.args.m (c.loop-items.words, c.loop-items.bytes) c.loop-items.slot)) (more_rules c.args.m (Another c.loop-items.separator)) c.args.s.now c.loop-items.at
+      ≡ follow c.args.s.now c.loop-items.at (seen_parted x) (λ y. pure (both {B = Known × Tables} (λ _. ((c.in-Got.items, c.in-Got.warnings, c.in-Got.first), (c.fill_rule-r.new.words, c.fill_rule-r.new.bytes))) y)) nothing) c.in-Got-after.is (step_parted _ (c.loop-items.words, c.loop-items.bytes) (c.fill_rule-r.new.words, c.fill_rule-r.new.bytes) _ _ _ _ (c.in-Got.items, c.in-Got.warnings, c.in-Got.first) c.in-Got.d c.parted-after.result c.blanks-c.ensures
+      (c.fill_rule-r.ensures ∙ ap (λ (y : RuleRead). seen_rule_into y (c.fill_rule-r.new.words, c.fill_rule-r.new.bytes)) c.in-Got.is) c.parted-after.ensures)))).stays,
   c.loop-items.invariant.low,
   c.requires,
 )
@@ -51,15 +51,15 @@ overflow_add-slot-in-Got-after c = omega (
 pub overflow_add-warned : goal.overflow_add-warned
 overflow_add-warned c = omega (
   arith,
-  ((subst ((λ (n : Next). Turned c.args.m ((let told : Tables = (c.loop-items.words, c.loop-items.bytes) in told)) ((let told : Tables = (c.fill_rule-r.new.words, c.fill_rule-r.new.bytes) in told)) c.loop-items.slot c.loop-items.separator c.args.s.now c.loop-items.at c.in-Got.items c.in-Got.warnings c.in-Got.first n c.in-Got-after.e.at)) refl (turned _ _ _ _ _ _ _ ((subst ((λ (x : Parted). map (both (rule_kept c.args.m ((let told : Tables = (c.loop-items.words, c.loop-items.bytes) in told)) c.loop-items.slot)) (more_rules c.args.m (Another c.loop-items.separator)) c.args.s.now c.loop-items.at
-      ≡ follow c.args.s.now c.loop-items.at (seen_parted x) (λ y. pure (both {B = Known × Tables} (λ _. ((c.in-Got.items, c.in-Got.warnings, c.in-Got.first), (let told : Tables = (c.fill_rule-r.new.words, c.fill_rule-r.new.bytes) in told))) y)) nothing)) c.in-Got-after.is (step_parted _ ((let told : Tables = (c.loop-items.words, c.loop-items.bytes) in told)) ((let told : Tables = (c.fill_rule-r.new.words, c.fill_rule-r.new.bytes) in told)) _ _ _ _ (c.in-Got.items, c.in-Got.warnings, c.in-Got.first) c.in-Got.d c.parted-after.result c.blanks-c.ensures
-      ((c.fill_rule-r.ensures ∙ ap (λ (y : RuleRead). seen_rule_into y ((let told : Tables = (c.fill_rule-r.new.words, c.fill_rule-r.new.bytes) in told))) c.in-Got.is)) c.parted-after.ensures)))))).mild,
-  ((subst ((λ (n : Next). Turned c.args.m ((let told : Tables = (c.loop-items.words, c.loop-items.bytes) in told)) ((let told : Tables = (c.fill_rule-r.new.words, c.fill_rule-r.new.bytes) in told)) c.loop-items.slot c.loop-items.separator c.args.s.now c.loop-items.at c.in-Got.items c.in-Got.warnings c.in-Got.first n c.in-Got-after.e.at)) refl (turned _ _ _ _ _ _ _ ((subst ((λ (x : Parted). map (both (rule_kept c.args.m ((let told : Tables = (c.loop-items.words, c.loop-items.bytes) in told)) c.loop-items.slot)) (more_rules c.args.m (Another c.loop-items.separator)) c.args.s.now c.loop-items.at
-      ≡ follow c.args.s.now c.loop-items.at (seen_parted x) (λ y. pure (both {B = Known × Tables} (λ _. ((c.in-Got.items, c.in-Got.warnings, c.in-Got.first), (let told : Tables = (c.fill_rule-r.new.words, c.fill_rule-r.new.bytes) in told))) y)) nothing)) c.in-Got-after.is (step_parted _ ((let told : Tables = (c.loop-items.words, c.loop-items.bytes) in told)) ((let told : Tables = (c.fill_rule-r.new.words, c.fill_rule-r.new.bytes) in told)) _ _ _ _ (c.in-Got.items, c.in-Got.warnings, c.in-Got.first) c.in-Got.d c.parted-after.result c.blanks-c.ensures
-      ((c.fill_rule-r.ensures ∙ ap (λ (y : RuleRead). seen_rule_into y ((let told : Tables = (c.fill_rule-r.new.words, c.fill_rule-r.new.bytes) in told))) c.in-Got.is)) c.parted-after.ensures)))))).later,
-  ((subst ((λ (n : Next). Turned c.args.m ((let told : Tables = (c.loop-items.words, c.loop-items.bytes) in told)) ((let told : Tables = (c.fill_rule-r.new.words, c.fill_rule-r.new.bytes) in told)) c.loop-items.slot c.loop-items.separator c.args.s.now c.loop-items.at c.in-Got.items c.in-Got.warnings c.in-Got.first n c.in-Got-after.e.at)) refl (turned _ _ _ _ _ _ _ ((subst ((λ (x : Parted). map (both (rule_kept c.args.m ((let told : Tables = (c.loop-items.words, c.loop-items.bytes) in told)) c.loop-items.slot)) (more_rules c.args.m (Another c.loop-items.separator)) c.args.s.now c.loop-items.at
-      ≡ follow c.args.s.now c.loop-items.at (seen_parted x) (λ y. pure (both {B = Known × Tables} (λ _. ((c.in-Got.items, c.in-Got.warnings, c.in-Got.first), (let told : Tables = (c.fill_rule-r.new.words, c.fill_rule-r.new.bytes) in told))) y)) nothing)) c.in-Got-after.is (step_parted _ ((let told : Tables = (c.loop-items.words, c.loop-items.bytes) in told)) ((let told : Tables = (c.fill_rule-r.new.words, c.fill_rule-r.new.bytes) in told)) _ _ _ _ (c.in-Got.items, c.in-Got.warnings, c.in-Got.first) c.in-Got.d c.parted-after.result c.blanks-c.ensures
-      ((c.fill_rule-r.ensures ∙ ap (λ (y : RuleRead). seen_rule_into y ((let told : Tables = (c.fill_rule-r.new.words, c.fill_rule-r.new.bytes) in told))) c.in-Got.is)) c.parted-after.ensures)))))).stays,
+  (subst (λ (n : Next). Turned c.args.m (c.loop-items.words, c.loop-items.bytes) (c.fill_rule-r.new.words, c.fill_rule-r.new.bytes) c.loop-items.slot c.loop-items.separator c.args.s.now c.loop-items.at c.in-Got.items c.in-Got.warnings c.in-Got.first n c.in-Got-after.e.at) refl (turned _ _ _ _ _ _ _ (subst (λ (x : Parted). map (both (rule_kept c.args.m (c.loop-items.words, c.loop-items.bytes) c.loop-items.slot)) (more_rules c.args.m (Another c.loop-items.separator)) c.args.s.now c.loop-items.at
+      ≡ follow c.args.s.now c.loop-items.at (seen_parted x) (λ y. pure (both {B = Known × Tables} (λ _. ((c.in-Got.items, c.in-Got.warnings, c.in-Got.first), (c.fill_rule-r.new.words, c.fill_rule-r.new.bytes))) y)) nothing) c.in-Got-after.is (step_parted _ (c.loop-items.words, c.loop-items.bytes) (c.fill_rule-r.new.words, c.fill_rule-r.new.bytes) _ _ _ _ (c.in-Got.items, c.in-Got.warnings, c.in-Got.first) c.in-Got.d c.parted-after.result c.blanks-c.ensures
+      (c.fill_rule-r.ensures ∙ ap (λ (y : RuleRead). seen_rule_into y (c.fill_rule-r.new.words, c.fill_rule-r.new.bytes)) c.in-Got.is) c.parted-after.ensures)))).mild,
+  (subst (λ (n : Next). Turned c.args.m (c.loop-items.words, c.loop-items.bytes) (c.fill_rule-r.new.words, c.fill_rule-r.new.bytes) c.loop-items.slot c.loop-items.separator c.args.s.now c.loop-items.at c.in-Got.items c.in-Got.warnings c.in-Got.first n c.in-Got-after.e.at) refl (turned _ _ _ _ _ _ _ (subst (λ (x : Parted). map (both (rule_kept c.args.m (c.loop-items.words, c.loop-items.bytes) c.loop-items.slot)) (more_rules c.args.m (Another c.loop-items.separator)) c.args.s.now c.loop-items.at
+      ≡ follow c.args.s.now c.loop-items.at (seen_parted x) (λ y. pure (both {B = Known × Tables} (λ _. ((c.in-Got.items, c.in-Got.warnings, c.in-Got.first), (c.fill_rule-r.new.words, c.fill_rule-r.new.bytes))) y)) nothing) c.in-Got-after.is (step_parted _ (c.loop-items.words, c.loop-items.bytes) (c.fill_rule-r.new.words, c.fill_rule-r.new.bytes) _ _ _ _ (c.in-Got.items, c.in-Got.warnings, c.in-Got.first) c.in-Got.d c.parted-after.result c.blanks-c.ensures
+      (c.fill_rule-r.ensures ∙ ap (λ (y : RuleRead). seen_rule_into y (c.fill_rule-r.new.words, c.fill_rule-r.new.bytes)) c.in-Got.is) c.parted-after.ensures)))).later,
+  (subst (λ (n : Next). Turned c.args.m (c.loop-items.words, c.loop-items.bytes) (c.fill_rule-r.new.words, c.fill_rule-r.new.bytes) c.loop-items.slot c.loop-items.separator c.args.s.now c.loop-items.at c.in-Got.items c.in-Got.warnings c.in-Got.first n c.in-Got-after.e.at) refl (turned _ _ _ _ _ _ _ (subst (λ (x : Parted). map (both (rule_kept c.args.m (c.loop-items.words, c.loop-items.bytes) c.loop-items.slot)) (more_rules c.args.m (Another c.loop-items.separator)) c.args.s.now c.loop-items.at
+      ≡ follow c.args.s.now c.loop-items.at (seen_parted x) (λ y. pure (both {B = Known × Tables} (λ _. ((c.in-Got.items, c.in-Got.warnings, c.in-Got.first), (c.fill_rule-r.new.words, c.fill_rule-r.new.bytes))) y)) nothing) c.in-Got-after.is (step_parted _ (c.loop-items.words, c.loop-items.bytes) (c.fill_rule-r.new.words, c.fill_rule-r.new.bytes) _ _ _ _ (c.in-Got.items, c.in-Got.warnings, c.in-Got.first) c.in-Got.d c.parted-after.result c.blanks-c.ensures
+      (c.fill_rule-r.ensures ∙ ap (λ (y : RuleRead). seen_rule_into y (c.fill_rule-r.new.words, c.fill_rule-r.new.bytes)) c.in-Got.is) c.parted-after.ensures)))).stays,
   c.loop-items.invariant.mild,
   c.loop-items.invariant.few,
   c.requires,
@@ -72,22 +72,22 @@ pub shape_of-bytes-in_default : goal.shape_of-bytes-in_default
 shape_of-bytes-in_default c = c.bytes-1.given ∙ c.loop-items.invariant.bytes
 
 pub returns-in_default : goal.returns-in_default
-returns-in_default c = filling_end _ _ _ _ ((let told : Tables = (c.loop-items.words, c.loop-items.bytes) in told)) ((let told : Tables = (c.fill_rule-r.new.words, c.fill_rule-r.new.bytes) in told)) c.loop-items.slot c.loop-items.warned c.loop-items.at c.loop-items.separator c.loop-items.broken c.loop-items.invariant ((subst ((λ (n : Next). Turned c.args.m ((let told : Tables = (c.loop-items.words, c.loop-items.bytes) in told)) ((let told : Tables = (c.fill_rule-r.new.words, c.fill_rule-r.new.bytes) in told)) c.loop-items.slot c.loop-items.separator c.args.s.now c.loop-items.at c.in-Got.items c.in-Got.warnings c.in-Got.first n c.in-Got-after.e.at)) c.in_default.is (turned _ _ _ _ _ _ _ ((subst ((λ (x : Parted). map (both (rule_kept c.args.m ((let told : Tables = (c.loop-items.words, c.loop-items.bytes) in told)) c.loop-items.slot)) (more_rules c.args.m (Another c.loop-items.separator)) c.args.s.now c.loop-items.at
-    ≡ follow c.args.s.now c.loop-items.at (seen_parted x) (λ y. pure (both {B = Known × Tables} (λ _. ((c.in-Got.items, c.in-Got.warnings, c.in-Got.first), (let told : Tables = (c.fill_rule-r.new.words, c.fill_rule-r.new.bytes) in told))) y)) nothing)) c.in-Got-after.is (step_parted _ ((let told : Tables = (c.loop-items.words, c.loop-items.bytes) in told)) ((let told : Tables = (c.fill_rule-r.new.words, c.fill_rule-r.new.bytes) in told)) _ _ _ _ (c.in-Got.items, c.in-Got.warnings, c.in-Got.first) c.in-Got.d c.parted-after.result c.blanks-c.ensures
-    ((c.fill_rule-r.ensures ∙ ap (λ (y : RuleRead). seen_rule_into y ((let told : Tables = (c.fill_rule-r.new.words, c.fill_rule-r.new.bytes) in told))) c.in-Got.is)) c.parted-after.ensures))))))
+returns-in_default c = filling_end _ _ _ _ (c.loop-items.words, c.loop-items.bytes) (c.fill_rule-r.new.words, c.fill_rule-r.new.bytes) c.loop-items.slot c.loop-items.warned c.loop-items.at c.loop-items.separator c.loop-items.broken c.loop-items.invariant (subst (λ (n : Next). Turned c.args.m (c.loop-items.words, c.loop-items.bytes) (c.fill_rule-r.new.words, c.fill_rule-r.new.bytes) c.loop-items.slot c.loop-items.separator c.args.s.now c.loop-items.at c.in-Got.items c.in-Got.warnings c.in-Got.first n c.in-Got-after.e.at) c.in_default.is (turned _ _ _ _ _ _ _ (subst (λ (x : Parted). map (both (rule_kept c.args.m (c.loop-items.words, c.loop-items.bytes) c.loop-items.slot)) (more_rules c.args.m (Another c.loop-items.separator)) c.args.s.now c.loop-items.at
+    ≡ follow c.args.s.now c.loop-items.at (seen_parted x) (λ y. pure (both {B = Known × Tables} (λ _. ((c.in-Got.items, c.in-Got.warnings, c.in-Got.first), (c.fill_rule-r.new.words, c.fill_rule-r.new.bytes))) y)) nothing) c.in-Got-after.is (step_parted _ (c.loop-items.words, c.loop-items.bytes) (c.fill_rule-r.new.words, c.fill_rule-r.new.bytes) _ _ _ _ (c.in-Got.items, c.in-Got.warnings, c.in-Got.first) c.in-Got.d c.parted-after.result c.blanks-c.ensures
+    (c.fill_rule-r.ensures ∙ ap (λ (y : RuleRead). seen_rule_into y (c.fill_rule-r.new.words, c.fill_rule-r.new.bytes)) c.in-Got.is) c.parted-after.ensures))))
     ∙ rw (← c.first_of-broken.ensures) (c.counted.ensures _ _)
 
 pub loop-items-smaller : goal.loop-items-smaller
-loop-items-smaller c = let t = (subst ((λ (n : Next). Turned c.args.m ((let told : Tables = (c.loop-items.words, c.loop-items.bytes) in told)) ((let told : Tables = (c.fill_rule-r.new.words, c.fill_rule-r.new.bytes) in told)) c.loop-items.slot c.loop-items.separator c.args.s.now c.loop-items.at c.in-Got.items c.in-Got.warnings c.in-Got.first n c.in-Got-after.e.at)) c.in-Another.is (turned _ _ _ _ _ _ _ ((subst ((λ (x : Parted). map (both (rule_kept c.args.m ((let told : Tables = (c.loop-items.words, c.loop-items.bytes) in told)) c.loop-items.slot)) (more_rules c.args.m (Another c.loop-items.separator)) c.args.s.now c.loop-items.at
-    ≡ follow c.args.s.now c.loop-items.at (seen_parted x) (λ y. pure (both {B = Known × Tables} (λ _. ((c.in-Got.items, c.in-Got.warnings, c.in-Got.first), (let told : Tables = (c.fill_rule-r.new.words, c.fill_rule-r.new.bytes) in told))) y)) nothing)) c.in-Got-after.is (step_parted _ ((let told : Tables = (c.loop-items.words, c.loop-items.bytes) in told)) ((let told : Tables = (c.fill_rule-r.new.words, c.fill_rule-r.new.bytes) in told)) _ _ _ _ (c.in-Got.items, c.in-Got.warnings, c.in-Got.first) c.in-Got.d c.parted-after.result c.blanks-c.ensures
-    ((c.fill_rule-r.ensures ∙ ap (λ (y : RuleRead). seen_rule_into y ((let told : Tables = (c.fill_rule-r.new.words, c.fill_rule-r.new.bytes) in told))) c.in-Got.is)) c.parted-after.ensures))))) in omega (arith, t.later, t.stays)
+loop-items-smaller c = let t = (subst (λ (n : Next). Turned c.args.m (c.loop-items.words, c.loop-items.bytes) (c.fill_rule-r.new.words, c.fill_rule-r.new.bytes) c.loop-items.slot c.loop-items.separator c.args.s.now c.loop-items.at c.in-Got.items c.in-Got.warnings c.in-Got.first n c.in-Got-after.e.at) c.in-Another.is (turned _ _ _ _ _ _ _ (subst (λ (x : Parted). map (both (rule_kept c.args.m (c.loop-items.words, c.loop-items.bytes) c.loop-items.slot)) (more_rules c.args.m (Another c.loop-items.separator)) c.args.s.now c.loop-items.at
+    ≡ follow c.args.s.now c.loop-items.at (seen_parted x) (λ y. pure (both {B = Known × Tables} (λ _. ((c.in-Got.items, c.in-Got.warnings, c.in-Got.first), (c.fill_rule-r.new.words, c.fill_rule-r.new.bytes))) y)) nothing) c.in-Got-after.is (step_parted _ (c.loop-items.words, c.loop-items.bytes) (c.fill_rule-r.new.words, c.fill_rule-r.new.bytes) _ _ _ _ (c.in-Got.items, c.in-Got.warnings, c.in-Got.first) c.in-Got.d c.parted-after.result c.blanks-c.ensures
+    (c.fill_rule-r.ensures ∙ ap (λ (y : RuleRead). seen_rule_into y (c.fill_rule-r.new.words, c.fill_rule-r.new.bytes)) c.in-Got.is) c.parted-after.ensures)))) in omega (arith, t.later, t.stays)
 
 pub loop-items-preserved : goal.loop-items-preserved
 loop-items-preserved c = rw c.first_of-broken.ensures
-    (filling_more _ _ _ _ ((let told : Tables = (c.loop-items.words, c.loop-items.bytes) in told)) ((let told : Tables = (c.fill_rule-r.new.words, c.fill_rule-r.new.bytes) in told)) c.loop-items.slot c.loop-items.warned c.loop-items.at c.loop-items.separator c.loop-items.broken c.loop-items.invariant c.requires
-    c.words-1.given c.bytes-1.given ((subst ((λ (n : Next). Turned c.args.m ((let told : Tables = (c.loop-items.words, c.loop-items.bytes) in told)) ((let told : Tables = (c.fill_rule-r.new.words, c.fill_rule-r.new.bytes) in told)) c.loop-items.slot c.loop-items.separator c.args.s.now c.loop-items.at c.in-Got.items c.in-Got.warnings c.in-Got.first n c.in-Got-after.e.at)) c.in-Another.is (turned _ _ _ _ _ _ _ ((subst ((λ (x : Parted). map (both (rule_kept c.args.m ((let told : Tables = (c.loop-items.words, c.loop-items.bytes) in told)) c.loop-items.slot)) (more_rules c.args.m (Another c.loop-items.separator)) c.args.s.now c.loop-items.at
-    ≡ follow c.args.s.now c.loop-items.at (seen_parted x) (λ y. pure (both {B = Known × Tables} (λ _. ((c.in-Got.items, c.in-Got.warnings, c.in-Got.first), (let told : Tables = (c.fill_rule-r.new.words, c.fill_rule-r.new.bytes) in told))) y)) nothing)) c.in-Got-after.is (step_parted _ ((let told : Tables = (c.loop-items.words, c.loop-items.bytes) in told)) ((let told : Tables = (c.fill_rule-r.new.words, c.fill_rule-r.new.bytes) in told)) _ _ _ _ (c.in-Got.items, c.in-Got.warnings, c.in-Got.first) c.in-Got.d c.parted-after.result c.blanks-c.ensures
-    ((c.fill_rule-r.ensures ∙ ap (λ (y : RuleRead). seen_rule_into y ((let told : Tables = (c.fill_rule-r.new.words, c.fill_rule-r.new.bytes) in told))) c.in-Got.is)) c.parted-after.ensures)))))))
+    (filling_more _ _ _ _ (c.loop-items.words, c.loop-items.bytes) (c.fill_rule-r.new.words, c.fill_rule-r.new.bytes) c.loop-items.slot c.loop-items.warned c.loop-items.at c.loop-items.separator c.loop-items.broken c.loop-items.invariant c.requires
+    c.words-1.given c.bytes-1.given (subst (λ (n : Next). Turned c.args.m (c.loop-items.words, c.loop-items.bytes) (c.fill_rule-r.new.words, c.fill_rule-r.new.bytes) c.loop-items.slot c.loop-items.separator c.args.s.now c.loop-items.at c.in-Got.items c.in-Got.warnings c.in-Got.first n c.in-Got-after.e.at) c.in-Another.is (turned _ _ _ _ _ _ _ (subst (λ (x : Parted). map (both (rule_kept c.args.m (c.loop-items.words, c.loop-items.bytes) c.loop-items.slot)) (more_rules c.args.m (Another c.loop-items.separator)) c.args.s.now c.loop-items.at
+    ≡ follow c.args.s.now c.loop-items.at (seen_parted x) (λ y. pure (both {B = Known × Tables} (λ _. ((c.in-Got.items, c.in-Got.warnings, c.in-Got.first), (c.fill_rule-r.new.words, c.fill_rule-r.new.bytes))) y)) nothing) c.in-Got-after.is (step_parted _ (c.loop-items.words, c.loop-items.bytes) (c.fill_rule-r.new.words, c.fill_rule-r.new.bytes) _ _ _ _ (c.in-Got.items, c.in-Got.warnings, c.in-Got.first) c.in-Got.d c.parted-after.result c.blanks-c.ensures
+    (c.fill_rule-r.ensures ∙ ap (λ (y : RuleRead). seen_rule_into y (c.fill_rule-r.new.words, c.fill_rule-r.new.bytes)) c.in-Got.is) c.parted-after.ensures)))))
 
 pub shape_of-words-in-Refused-after : goal.shape_of-words-in-Refused-after
 shape_of-words-in-Refused-after c = c.words-1.given ∙ c.loop-items.invariant.words
@@ -96,10 +96,10 @@ pub shape_of-bytes-in-Refused-after : goal.shape_of-bytes-in-Refused-after
 shape_of-bytes-in-Refused-after c = c.bytes-1.given ∙ c.loop-items.invariant.bytes
 
 pub returns-in-Refused-after : goal.returns-in-Refused-after
-returns-in-Refused-after c = filling_refused _ _ _ _ ((let told : Tables = (c.loop-items.words, c.loop-items.bytes) in told)) ((let told : Tables = (c.fill_rule-r.new.words, c.fill_rule-r.new.bytes) in told)) c.loop-items.slot c.loop-items.warned c.loop-items.at c.loop-items.separator c.loop-items.broken c.loop-items.invariant
-    ((subst ((λ (x : Parted). map (both (rule_kept c.args.m ((let told : Tables = (c.loop-items.words, c.loop-items.bytes) in told)) c.loop-items.slot)) (more_rules c.args.m (Another c.loop-items.separator)) c.args.s.now c.loop-items.at
-    ≡ follow c.args.s.now c.loop-items.at (seen_parted x) (λ y. pure (both {B = Known × Tables} (λ _. ((c.in-Got.items, c.in-Got.warnings, c.in-Got.first), (let told : Tables = (c.fill_rule-r.new.words, c.fill_rule-r.new.bytes) in told))) y)) nothing)) c.in-Refused-after.is (step_parted _ ((let told : Tables = (c.loop-items.words, c.loop-items.bytes) in told)) ((let told : Tables = (c.fill_rule-r.new.words, c.fill_rule-r.new.bytes) in told)) _ _ _ _ (c.in-Got.items, c.in-Got.warnings, c.in-Got.first) c.in-Got.d c.parted-after.result c.blanks-c.ensures
-    ((c.fill_rule-r.ensures ∙ ap (λ (y : RuleRead). seen_rule_into y ((let told : Tables = (c.fill_rule-r.new.words, c.fill_rule-r.new.bytes) in told))) c.in-Got.is)) c.parted-after.ensures)))
+returns-in-Refused-after c = filling_refused _ _ _ _ (c.loop-items.words, c.loop-items.bytes) (c.fill_rule-r.new.words, c.fill_rule-r.new.bytes) c.loop-items.slot c.loop-items.warned c.loop-items.at c.loop-items.separator c.loop-items.broken c.loop-items.invariant
+    (subst (λ (x : Parted). map (both (rule_kept c.args.m (c.loop-items.words, c.loop-items.bytes) c.loop-items.slot)) (more_rules c.args.m (Another c.loop-items.separator)) c.args.s.now c.loop-items.at
+    ≡ follow c.args.s.now c.loop-items.at (seen_parted x) (λ y. pure (both {B = Known × Tables} (λ _. ((c.in-Got.items, c.in-Got.warnings, c.in-Got.first), (c.fill_rule-r.new.words, c.fill_rule-r.new.bytes))) y)) nothing) c.in-Refused-after.is (step_parted _ (c.loop-items.words, c.loop-items.bytes) (c.fill_rule-r.new.words, c.fill_rule-r.new.bytes) _ _ _ _ (c.in-Got.items, c.in-Got.warnings, c.in-Got.first) c.in-Got.d c.parted-after.result c.blanks-c.ensures
+    (c.fill_rule-r.ensures ∙ ap (λ (y : RuleRead). seen_rule_into y (c.fill_rule-r.new.words, c.fill_rule-r.new.bytes)) c.in-Got.is) c.parted-after.ensures))
 
 pub shape_of-words-in-Refused : goal.shape_of-words-in-Refused
 shape_of-words-in-Refused c = c.words-1.given ∙ c.loop-items.invariant.words
@@ -108,5 +108,5 @@ pub shape_of-bytes-in-Refused : goal.shape_of-bytes-in-Refused
 shape_of-bytes-in-Refused c = c.bytes-1.given ∙ c.loop-items.invariant.bytes
 
 pub returns-in-Refused : goal.returns-in-Refused
-returns-in-Refused c = filling_refused _ _ _ _ ((let told : Tables = (c.loop-items.words, c.loop-items.bytes) in told)) ((let told : Tables = (c.fill_rule-r.new.words, c.fill_rule-r.new.bytes) in told)) c.loop-items.slot c.loop-items.warned c.loop-items.at c.loop-items.separator c.loop-items.broken c.loop-items.invariant
-    (step _ ((let told : Tables = (c.loop-items.words, c.loop-items.bytes) in told)) ((let told : Tables = (c.fill_rule-r.new.words, c.fill_rule-r.new.bytes) in told)) _ _ _ _ (rule-read.Refused c.in-Refused.k c.in-Refused.q) c.blanks-c.ensures ((c.fill_rule-r.ensures ∙ ap (λ (y : RuleRead). seen_rule_into y ((let told : Tables = (c.fill_rule-r.new.words, c.fill_rule-r.new.bytes) in told))) c.in-Refused.is)) refl)
+returns-in-Refused c = filling_refused _ _ _ _ (c.loop-items.words, c.loop-items.bytes) (c.fill_rule-r.new.words, c.fill_rule-r.new.bytes) c.loop-items.slot c.loop-items.warned c.loop-items.at c.loop-items.separator c.loop-items.broken c.loop-items.invariant
+    (step _ (c.loop-items.words, c.loop-items.bytes) (c.fill_rule-r.new.words, c.fill_rule-r.new.bytes) _ _ _ _ (rule-read.Refused c.in-Refused.k c.in-Refused.q) c.blanks-c.ensures (c.fill_rule-r.ensures ∙ ap (λ (y : RuleRead). seen_rule_into y (c.fill_rule-r.new.words, c.fill_rule-r.new.bytes)) c.in-Refused.is) refl)

@@ -1,4 +1,3 @@
-use borrow.Author.Rules.{rules}
 use mathlib.Core.Path.{sym, ◌∙◌}
 use Rattle.times.specs.Meanings.{span_meaning}
 use Rattle.times.proofs.meanings.alone_meaning.Goals as goal

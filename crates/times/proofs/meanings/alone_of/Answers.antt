@@ -1,5 +1,4 @@
 -- Only the second edition takes a time alone.
-use borrow.Author.Rules.{rules}
 use mathlib.Core.Path.{◌≡◌, refl}
 use Rattle.names.proofs.Manners.{not_second}
 use Rattle.times.specs.Meanings.{alone_of}

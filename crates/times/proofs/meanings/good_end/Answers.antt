@@ -1,5 +1,4 @@
 -- By itself, so that another limit is seen to be wrong here.
-use borrow.Author.Rules.{rules}
 use Rattle.times.proofs.meanings.good_end.Goals as goal
 
 pub returns : goal.returns

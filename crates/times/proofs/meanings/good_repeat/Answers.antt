@@ -1,4 +1,3 @@
-use borrow.Author.Rules.{rules}
 use Rattle.times.proofs.meanings.good_repeat.Goals as goal
 
 pub returns-in-Every : goal.returns-in-Every

@@ -1,4 +1,3 @@
-use borrow.Author.Rules.{rules}
 use Rattle.times.specs.Spans.{event_item_after}
 use Rattle.times.proofs.spans.event_item_after.Goals as goal
 

@@ -1,5 +1,4 @@
 use Prim.Native.Nat.{ℕ}
-use borrow.Author.Rules.{rules}
 use mathlib.Core.Path.{ap}
 use Rattle.names.proofs.Facts.{Was, was, Said, said}
 use Rattle.times.specs.Spans.{repeated}
@@ -12,8 +11,8 @@ returns-in-Got c = rw ((said c.clock-hours.ensures.is (ap seen_clock c.in-Got.is
 
 pub returns-in-Got-minutes : goal.returns-in-Got-minutes
 unfolding repeated
-returns-in-Got-minutes c = let w = (let told : Said ℕ × Was = ((let told : Said ℕ = said c.clock-hours.ensures.is (ap seen_clock c.in_default.is) in told), was c.minutes-minutes.ensures c.in-Got-minutes.is) in told) in rw (w.0.is, w.1.is, c.minutes_of.ensures.0)
+returns-in-Got-minutes c = let w : Said ℕ × Was = (said c.clock-hours.ensures.is (ap seen_clock c.in_default.is), was c.minutes-minutes.ensures c.in-Got-minutes.is) in rw (w.0.is, w.1.is, c.minutes_of.ensures.0)
 
 pub returns-in-Missing : goal.returns-in-Missing
 unfolding repeated
-returns-in-Missing c = let w = (let told : Said ℕ = said c.clock-hours.ensures.is (ap seen_clock c.in_default.is) in told) in let v = was c.minutes-minutes.ensures c.in-Missing.is in rw (w.is, v.is)
+returns-in-Missing c = let w : Said ℕ = said c.clock-hours.ensures.is (ap seen_clock c.in_default.is) in let v = was c.minutes-minutes.ensures c.in-Missing.is in rw (w.is, v.is)

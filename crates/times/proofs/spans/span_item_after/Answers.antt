@@ -1,11 +1,8 @@
 use Prim.Native.Nat.{ℕ}
-use mathlib.Core.List.{List, [], ◌∷◌}
+use mathlib.Core.List.{List, []}
 use mathlib.Core.Path.{◌≡◌, refl}
-use borrow.Author.Rules.{rules}
-use denote.Enum.Declared.{tag_of}
-use types.Run.{OneOf, miss}
 use Rattle.names.specs.Read.{Read, got, none, refused, Reader, follow, nothing, pure}
-use Rattle.names.proofs.Facts.{Went, went}
+use Rattle.names.proofs.Facts.{went}
 use Rattle.records.specs.Items.{judged}
 use Rattle.records.specs.Seen.{seen_item}
 use Rattle.records.specs.declared.Item.{Item}
@@ -13,7 +10,6 @@ use Rattle.records.specs.declared.ItemRead.{ItemRead}
 use Rattle.records.specs.declared.ItemRead.TheVariants as item
 use Rattle.records.specs.declared.Meant.{Meant}
 use Rattle.records.specs.declared.Meant.TheVariants.{Is, Refused}
-use Rattle.records.specs.contracts.ItemRead.{the_type as item-type}
 use Rattle.records.proofs.Anywhere.{judged_in}
 use Rattle.times.specs.Shapes.{RawSpan, Alone}
 use Rattle.times.specs.Spans.{until_time, span_after}
@@ -52,7 +48,7 @@ returns-in-Got c = rw ((went c.sign-plus.ensures c.in-Got.is).is, ← c.open_mea
 pub returns-in-Missing : goal.returns-in-Missing
 unfolding span_after
 returns-in-Missing c = rw (
-  ((let told : Went = went c.sign-plus.ensures c.in_default.is in told)).is,
+  (went c.sign-plus.ensures c.in_default.is).is,
   next c.args.p (span_meaning c.args.m) c.args.s.now c.args.c.at c.until_item-until.result c.in-Missing.is (Alone (c.args.start, c.args.odd))
       (until_time (c.args.start, c.args.odd) c.args.s.now c.args.c.at) (c.until_item-until.ensures c.args.m),
   ← c.alone_meaning.ensures,
@@ -62,5 +58,5 @@ returns-in-Missing c = rw (
 
 pub returns-in_default-until : goal.returns-in_default-until
 unfolding span_after
-returns-in_default-until c = rw ((let told : Went = went c.sign-plus.ensures c.in_default.is in told)).is (stays c.args.p (span_meaning c.args.m) c.args.s.now c.args.c.at c.until_item-until.result c.in_default-until.not-Missing (pure (Alone (c.args.start, c.args.odd)))
+returns-in_default-until c = rw (went c.sign-plus.ensures c.in_default.is).is (stays c.args.p (span_meaning c.args.m) c.args.s.now c.args.c.at c.until_item-until.result c.in_default-until.not-Missing (pure (Alone (c.args.start, c.args.odd)))
     (until_time (c.args.start, c.args.odd) c.args.s.now c.args.c.at) (c.until_item-until.ensures c.args.m))

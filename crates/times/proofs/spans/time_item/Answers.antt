@@ -1,10 +1,9 @@
-use borrow.Author.Rules.{rules}
 use mathlib.Core.Bool.{false}
 use mathlib.Core.List.{List}
 use mathlib.Core.Path.{◌≡◌, ap, ◌∙◌}
 use Prim.Native.Nat.{ℕ}
 use Rattle.names.specs.Read.{Read, got, none}
-use Rattle.names.proofs.Facts.{Said, said}
+use Rattle.names.proofs.Facts.{said}
 use Rattle.times.specs.Spans.{span_after, span_shape, time_item}
 use Rattle.times.specs.Seen.{seen_clock, seen_time}
 use Rattle.records.specs.declared.Time.TheVariants.{Fixed}
@@ -29,9 +28,9 @@ returns-in-Got c = let fixed = with_clock c.args.s.now c.args.c.at (c.clock-fixe
 
 pub returns-in_default-first : goal.returns-in_default-first
 unfolding span_shape time_item
-returns-in_default-first c = rw (without_clock c.args.s.now c.args.c.at ((let told : Said ℕ = said c.clock-fixed.ensures.is (ap seen_clock c.in_default.is) in told)).is (c.event_time-first.ensures ∙ ap seen_time c.in_default-first.is))
+returns-in_default-first c = rw (without_clock c.args.s.now c.args.c.at (said c.clock-fixed.ensures.is (ap seen_clock c.in_default.is)).is (c.event_time-first.ensures ∙ ap seen_time c.in_default-first.is))
 
 pub returns : goal.returns
 unfolding span_shape time_item
-returns c = let first = without_clock c.args.s.now c.args.c.at ((let told : Said ℕ = said c.clock-fixed.ensures.is (ap seen_clock c.in_default.is) in told)).is (c.event_time-first.ensures ∙ ap seen_time c.in-Got-first.is) in
+returns c = let first = without_clock c.args.s.now c.args.c.at (said c.clock-fixed.ensures.is (ap seen_clock c.in_default.is)).is (c.event_time-first.ensures ∙ ap seen_time c.in-Got-first.is) in
     item_after_lem time span_after (span_meaning _) first ∙ c.span_item_after-2.ensures

@@ -1,4 +1,3 @@
-use borrow.Author.Rules.{rules}
 use mathlib.Core.List.{[]}
 use mathlib.Core.Path.{ap}
 use Rattle.names.proofs.Facts.{Went, went, Said, said}
@@ -14,8 +13,8 @@ returns-in_default c = λ m. rw (went c.sign-minus.ensures c.in_default.is).is
 
 pub returns-in_default-last : goal.returns-in_default-last
 unfolding until_time
-returns-in_default-last c = λ m. rw (((let told : Went = went c.sign-minus.ensures c.in-Got.is in told)).is, (said c.time-last.ensures (ap seen_time c.in_default-last.is)).is)
+returns-in_default-last c = λ m. rw ((went c.sign-minus.ensures c.in-Got.is).is, (said c.time-last.ensures (ap seen_time c.in_default-last.is)).is)
 
 pub returns : goal.returns
 unfolding until_time
-returns c = λ m. let k = (let told : Went × Said Spelt = ((let told : Went = went c.sign-minus.ensures c.in-Got.is in told), said c.time-last.ensures (ap seen_time c.in-Got-last.is)) in told) in rw (k.0.is, k.1.is, c.tail-t.ensures, ← c.until_meaning.ensures m, judged_in c.args.p c.until_meaning.result c.args.s.now [] c.tail-t.result.next.at) c.judged.ensures
+returns c = λ m. let k : Went × Said Spelt = (went c.sign-minus.ensures c.in-Got.is, said c.time-last.ensures (ap seen_time c.in-Got-last.is)) in rw (k.0.is, k.1.is, c.tail-t.ensures, ← c.until_meaning.ensures m, judged_in c.args.p c.until_meaning.result c.args.s.now [] c.tail-t.result.next.at) c.judged.ensures

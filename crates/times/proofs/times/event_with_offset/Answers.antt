@@ -1,4 +1,3 @@
-use borrow.Author.Rules.{rules}
 use mathlib.Core.Path.{ap}
 use Rattle.names.proofs.Facts.{Called, called, Went, went, Said, said}
 use Rattle.times.specs.Times.{Spelt, event_with_offset}
@@ -11,18 +10,18 @@ returns-in_default c = let v = went c.sign-left.ensures c.in_default.is in rw v.
 
 pub returns-in_default-name : goal.returns-in_default-name
 unfolding event_with_offset
-returns-in_default-name c = let w = (let told : Went = went c.sign-left.ensures c.in-Got.is in told) in let v = called c.named-name.ensures c.in_default-name.is in rw (w.is, v.is)
+returns-in_default-name c = let w : Went = went c.sign-left.ensures c.in-Got.is in let v = called c.named-name.ensures c.in_default-name.is in rw (w.is, v.is)
 
 pub returns-in_default-time : goal.returns-in_default-time
 unfolding event_with_offset
-returns-in_default-time c = let w = (let told : Went × Called = ((let told : Went = went c.sign-left.ensures c.in-Got.is in told), called c.named-name.ensures c.in-Got-name.is) in told) in let v = said c.with_offset-time.ensures (ap seen_time c.in_default-time.is) in
+returns-in_default-time c = let w : Went × Called = (went c.sign-left.ensures c.in-Got.is, called c.named-name.ensures c.in-Got-name.is) in let v = said c.with_offset-time.ensures (ap seen_time c.in_default-time.is) in
     rw (w.0.is, w.1.is, v.is)
 
 pub returns-in_default-right : goal.returns-in_default-right
 unfolding event_with_offset
-returns-in_default-right c = let w = (let told : (Went × Called) × Said Spelt = ((let told : Went × Called = ((let told : Went = went c.sign-left.ensures c.in-Got.is in told), called c.named-name.ensures c.in-Got-name.is) in told), said c.with_offset-time.ensures (ap seen_time c.in-Got-time.is)) in told) in let v = went c.sign-right.ensures c.in_default-right.is in
+returns-in_default-right c = let w : (Went × Called) × Said Spelt = ((let told : Went × Called = (went c.sign-left.ensures c.in-Got.is, called c.named-name.ensures c.in-Got-name.is) in told), said c.with_offset-time.ensures (ap seen_time c.in-Got-time.is)) in let v = went c.sign-right.ensures c.in_default-right.is in
     rw (w.0.0.is, w.0.1.is, w.1.is, v.is)
 
 pub returns : goal.returns
 unfolding event_with_offset
-returns c = let w = (let told : ((Went × Called) × Said Spelt) × Went = ((let told : (Went × Called) × Said Spelt = ((let told : Went × Called = ((let told : Went = went c.sign-left.ensures c.in-Got.is in told), called c.named-name.ensures c.in-Got-name.is) in told), said c.with_offset-time.ensures (ap seen_time c.in-Got-time.is)) in told), went c.sign-right.ensures c.in-Got-right.is) in told) in rw (w.0.0.0.is, w.0.0.1.is, w.0.1.is, w.1.is)
+returns c = let w : ((Went × Called) × Said Spelt) × Went = ((let told : (Went × Called) × Said Spelt = ((let told : Went × Called = (went c.sign-left.ensures c.in-Got.is, called c.named-name.ensures c.in-Got-name.is) in told), said c.with_offset-time.ensures (ap seen_time c.in-Got-time.is)) in told), went c.sign-right.ensures c.in-Got-right.is) in rw (w.0.0.0.is, w.0.0.1.is, w.0.1.is, w.1.is)

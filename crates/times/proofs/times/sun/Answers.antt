@@ -1,4 +1,3 @@
-use borrow.Author.Rules.{rules}
 use native.Mathlib.Omega.{arith}
 use Rattle.records.proofs.Laws.{half_fits}
 use Rattle.times.proofs.times.sun.Goals as goal

@@ -1,4 +1,3 @@
-use borrow.Author.Rules.{rules}
 use mathlib.Core.Path.{ap}
 use Rattle.names.proofs.Facts.{said}
 use Rattle.times.specs.Times.{time}
