@@ -69,14 +69,14 @@ enum {
     LORUKINDE_ILL_FORMED_COMMENT = 13, /* a comment that is not well-formed UTF-8 (RFC 3629); its first quote */
     LORUKINDE_NO_ANSWER_ROOM = 14,     /* a feed with more lines than whole 16 bytes in the answer table; no place is stored */
     LORUKINDE_COUNT_FULL = 15,         /* a tally: a count would pass 4,294,967,295 */
-    LORUKINDE_NO_FIT = 16,             /* a tally: an answer and its records that do not fit, or a tally of another length */
+    LORUKINDE_NO_FIT = 16,             /* a tally: an answer and its records that do not fit, or a tally of another length; a
+                                          call that is asked of a table: the table's records do not fit */
     LORUKINDE_UNKNOWN_EDITION = 19,    /* an edition that is neither 1 nor 2, of the calls that take one; 0 */
     LORUKINDE_HOUSE_FORM = 22,         /* house: a form that it does not allow; the item's place, for a separator the place of the
                                           rule that follows it */
     LORUKINDE_HOUSE_ORDER = 23,        /* house: a span that ends not after its start, or starts before an earlier one of its rule
                                           ends; the span's place */
     /* of the calls that are asked of a table, and of no reading */
-    LORUKINDE_NO_FIT = 16,             /* the table's records do not fit */
     LORUKINDE_NO_DAYS = 20,            /* an impossible day, bytes left over after the days, or no such rule */
     LORUKINDE_SHORT_LIST = 21,         /* a list with fewer entries than there are rules */
     LORUKINDE_FEW_ANSWERS = 24         /* room for fewer answers than days */

@@ -1,5 +1,5 @@
 # To be sourced: the static library of the C calls, and how a C program over it is built; "${emulator[@]}" runs it.
-#   ARCHIVE   the library (default: target/staticlib/libc_calls.a, proved and made if it is missing)
+#   ARCHIVE   the library (default: target/staticlib/libc_calls.a, proved and made if it is missing: make_archive.sh)
 . "$(dirname "${BASH_SOURCE[0]}")/x86.sh"
 archive=${ARCHIVE:-$root/target/staticlib/libc_calls.a}
 x86_tools
@@ -9,7 +9,7 @@ if [ "$(uname -m)" = x86_64 ]; then
 else
     compiler="x86_64-linux-gnu-gcc -static"
 fi
-[ -f "$archive" ] || (cd "$root" && rt staticlib c_calls)
+[ -f "$archive" ] || bash "$root/tools/make_archive.sh"
 
 # build PROGRAM FILE.c [WORDS...]
 build() {

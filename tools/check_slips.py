@@ -1,12 +1,13 @@
 #!/usr/bin/env python3
-"""check_slips.py FILE: compares the numbers and places in the list of slips (rust/lorukinde/tests/slips.txt) with the second reader's, which has to accept
-each sheet that was meant."""
+"""check_slips.py FILE: compares the numbers and places in a list of slips (rust/lorukinde/tests/slips.txt and meant.txt) with the second reader's. In a list
+that tells what was meant (meant.txt) the second reader has to accept each such sheet."""
 import sys
 
 import reference
 
 HOWS = {"1": 1, "2": 2, "house": reference.HOUSE}
 WORDS = 8192
+TELLS_WHAT_WAS_MEANT = 6  # so many fields has a line then
 UNKNOWN = "?"  # nobody can say what was meant
 
 
@@ -21,7 +22,7 @@ def main():
     wrong = [s for s in slips if first_refused(reference.bytes_of(s[1].encode()), HOWS[s[0]]) != (int(s[2]), int(s[3]))]
     for slip in wrong:
         print("read otherwise:", *slip[:4])
-    meant = [s for s in slips if s[4] != UNKNOWN]
+    meant = [s for s in slips if len(s) == TELLS_WHAT_WAS_MEANT and s[4] != UNKNOWN]
     refused = [s for s in meant if first_refused(reference.bytes_of(s[4].encode()), HOWS[s[0]])]
     for slip in refused:
         print("refused, though meant:", slip[0], slip[4])

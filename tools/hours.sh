@@ -3,7 +3,7 @@
 # Exit code 1 and a line on standard error where it could not read or write. (A Rattle program always ends with exit code 0: what it says on standard error tells.)
 set -euo pipefail
 . "$(dirname "$0")/x86.sh"
-[ -x "$root/target/bin/hours" ] || (cd "$root" && rt check hours) >&2
+[ -x "$root/target/bin/hours" ] || bash "$root/tools/make_hours.sh" >&2
 x86_tools
 said=$(mktemp)
 trap 'rm -f "$said"' EXIT

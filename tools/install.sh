@@ -1,7 +1,7 @@
 #!/usr/bin/env bash
 # install.sh PREFIX: puts below PREFIX the header, liblorukinde.a (the proved calls), liblorukinde.so (these, and the Rust crate's sentences), lorukinde.pc, the program
 # `lorukinde`, its manual page, and its completions for bash and zsh. Installs what is missing (Debian's packages: gcc, cargo, rustc), and makes what is not there;
-# the archive by `rt staticlib c_calls`, which takes some minutes.
+# the archive by make_archive.sh, which takes some minutes.
 #   LORUKINDE_LIB_DIR   the folder of libc_calls.a (default: target/staticlib)
 # All of it is x86-64; on another processor it is built for that, and the program runs by an emulator (x86.sh).
 set -euo pipefail

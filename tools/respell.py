@@ -1,7 +1,7 @@
 #!/usr/bin/env python3
 """Spells the repository's own definitions and lemmas as today's Rattle does: words in snake case, types and modules in camel case.
 
-usage: python3 tools/respell.py [--list]      at the top of a repository, once, right after /opt/rattle/port/port.py
+usage: python3 tools/respell.py [--list]      at the top of a repository, once, right after the kit's port/port.py
 
 port.py spells anew the names of Rattle and of its libraries, and those of ours that it takes for one of them. This does the rest: a name that
 specs/ or proofs/ declare, as `stepOf` or `step-of`, becomes `step_of` where it stands as a whole word, in .antt, .rt and .edit files, and where a

@@ -1,4 +1,4 @@
-# To be sourced: what the crate rust/lorukinde needs to be built. Installs what is missing (Debian's packages) and makes the archive if it is not there.
+# To be sourced: what the crate rust/lorukinde needs to be built. Installs what is missing (Debian's packages) and makes the archive if it is not there (make_archive.sh).
 #   LORUKINDE_LIB_DIR   the folder of libc_calls.a (default: target/staticlib)
 # The archive is x86-64. On another processor cargo builds for x86-64 from here on, and "${emulator[@]}" runs what it built (x86.sh).
 . "$(dirname "${BASH_SOURCE[0]}")/x86.sh"
@@ -8,6 +8,5 @@ need cc gcc libc6-dev
 need cargo cargo rustc
 x86_cargo
 if [ ! -f "$LORUKINDE_LIB_DIR/libc_calls.a" ]; then
-    command -v rt >/dev/null || { echo "libc_calls.a is not there, and neither is rt, which makes it" >&2; exit 1; }
-    (cd "$root" && rt staticlib c_calls)
+    bash "$root/tools/make_archive.sh"
 fi

@@ -1,5 +1,5 @@
 #!/usr/bin/env bash
-# The crate rust/lorukinde over the static library: its tests, the numbers and places of its list of slips by the second reader, and the program on one sheet.
+# The crate rust/lorukinde over the static library: its tests, the numbers and places of its lists of slips by the second reader, and the program on one sheet.
 # Installs what is missing and makes the archive if it is not there (rust.sh).
 #   LORUKINDE_LIB_DIR   the folder of libc_calls.a (default: target/staticlib)
 set -euo pipefail
@@ -11,10 +11,10 @@ cd "$crate"
 cargo test --offline "${tests[@]}"
 need python3 python3
 python3 "$root/tools/check_slips.py" tests/slips.txt
+python3 "$root/tools/check_slips.py" tests/meant.txt
 
 said=$(printf '2020 Dec 25-05 off\n' | bash "$root/tools/lorukinde.sh" say)
 echo "$said"
 [ "$said" = "2020 Dec 25-05 off
-  closed: 25 December 2020 to 5 January 2021
-  remark at character 13: the 5th is in January 2021: the first 5th that does not come before 25 December 2020; write \`2021 Jan 5\`, not \`05\`" ] || { echo "the program should have said otherwise" >&2; exit 1; }
+  closed: 25 December 2020 to 5 January 2021" ] || { echo "the program should have said otherwise" >&2; exit 1; }
 echo "rust/lorukinde: tests and program passed"

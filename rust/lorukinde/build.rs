@@ -1,5 +1,5 @@
-//! Links the static library `libc_calls.a`: from the folder `LORUKINDE_LIB_DIR`, or from where `rt staticlib` leaves it. Where it is
-//! not there `no_archive` is set, and the crate says so when it is compiled; its documentation needs no archive.
+//! Links the static library `libc_calls.a`: from the folder `LORUKINDE_LIB_DIR`, or from where `tools/make_archive.sh` leaves it. Where it
+//! is not there `no_archive` is set, and the crate says so when it is compiled; its documentation needs no archive.
 use std::env;
 use std::path::PathBuf;
 

@@ -1,6 +1,6 @@
 //! What the crate answers, for the tests of the Python package: for each line of standard input, a manner's number and a sheet in
 //! hexadecimal, its parts with their records, meanings and sentences, and the answer for the sheet as a whole.
-use lorukinde::{explain, parts_in, read_sheet, Manner, Record};
+use lorukinde::{explain_meant, parts_in, read_sheet, Language, Manner, Record};
 use std::io::{self, BufRead, Write};
 
 fn main() -> io::Result<()> {
@@ -29,13 +29,13 @@ fn answer(out: &mut impl Write, manner: Manner, sheet: &[u8]) -> io::Result<()> 
                     rule.items()
                         .zip(rule.records())
                         .try_for_each(|(item, record)| writeln!(out, "item {item:?} {:?}", record.words()))?;
-                    writeln!(out, "says {rule}")?;
+                    writeln!(out, "says {}", rule.said(Language::English))?;
                 }
             }
             Err(refusal) => {
                 let position = refusal.position(sheet);
                 writeln!(out, "refused {} {} {} {}", refusal.number, refusal.place, position.line, position.column)?;
-                writeln!(out, "says {}", explain(manner, sheet, part.range.clone(), refusal))?;
+                writeln!(out, "says {}", explain_meant(manner, sheet, part.range.clone(), refusal))?;
             }
         }
     }

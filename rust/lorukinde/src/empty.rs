@@ -4,6 +4,7 @@ use std::ops::Range;
 
 use crate::hint::Hint;
 use crate::manner::Manner;
+use crate::parts::parts_in;
 use crate::remarks::is_doubtful;
 
 /// An empty rule: the separators that stand before and after it, if it is not the sheet's first or last.
@@ -33,14 +34,26 @@ impl Empty<'_> {
     }
 
     /// One of the two separators is too many. Which one is sure at the sheet's ends, and where both are the same.
-    pub fn hint(&self, manner: Manner, sheet: &[u8]) -> Option<Hint> {
+    fn superfluous(&self) -> Option<Range<usize>> {
         let superfluous = match (&self.before, &self.after) {
             (Some(before), Some(after)) if before.sign != after.sign => return None,
             (before, after) => after.as_ref().or(before.as_ref())?,
         };
-        let range = superfluous.range.clone();
+        Some(superfluous.range.clone())
+    }
+
+    /// That it is left out.
+    pub fn hint(&self, sheet: &[u8]) -> Option<Hint> {
+        Some(Hint::new(sheet, self.superfluous()?, ""))
+    }
+
+    /// That it is left out, if fewer parts are then refused and nothing in the sheet is doubtful.
+    pub fn hint_of_what_is_meant(&self, manner: Manner, sheet: &[u8]) -> Option<Hint> {
+        let range = self.superfluous()?;
         let better = [&sheet[..range.start], &sheet[range.end..]].concat();
-        (!is_doubtful(manner, &better)).then(|| Hint::new(sheet, range, ""))
+        let refused = |sheet: &[u8]| parts_in(manner, sheet).filter(|part| part.reading.is_err()).count();
+        let is_sure = refused(&better) < refused(sheet) && !is_doubtful(manner, &better);
+        is_sure.then(|| Hint::new(sheet, range, ""))
     }
 }
 

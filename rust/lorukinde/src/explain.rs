@@ -10,7 +10,7 @@ use crate::manner::Manner;
 use crate::place::{characters, first_character, Character};
 use crate::refusal::Refusal;
 use crate::spot::Spot;
-use crate::{house, inverted, meant, range};
+use crate::{house, inverted, meant, range, slips};
 
 /// What is wrong, and what to write instead where a common slip is seen. Its `Display` is one sentence.
 #[derive(Clone, Debug, PartialEq, Eq)]
@@ -18,7 +18,7 @@ pub struct Explanation {
     /// What stands at the refusal's place, and what was expected there.
     pub wrong: String,
     pub hint: Option<Hint>,
-    /// Where what is wrong stands: the number or the time that is, where the refusal's place is its item's.
+    /// Where what is wrong stands.
     pub place: usize,
     /// Whether edition 2 of the rules accepts the part, where it was read by edition 1.
     pub in_edition_2: bool,
@@ -38,21 +38,58 @@ impl fmt::Display for Explanation {
 }
 
 /// Explains why a part of a sheet, which is given by its range, is refused in a manner; for a sheet that was read as a whole, its
-/// part is all of it.
+/// part is all of it. With what the hint says the part is accepted, or refused later.
 pub fn explain(manner: Manner, sheet: &[u8], part: Range<usize>, refusal: &Refusal) -> Explanation {
-    let refused_as_long = refusal.number == Refusal::TOO_LONG;
-    if refused_as_long || !(part.start..=part.end).contains(&refusal.place) || part.end > sheet.len() {
-        return Explanation { wrong: refusal.to_string(), hint: None, place: refusal.place, in_edition_2: false };
-    }
-    let (text, place) = (&sheet[part.clone()], refusal.place - part.start);
-    let spot = Spot { text, number: refusal.number, place, stage: stage(manner, text, place) };
+    let spot = match spot(manner, sheet, &part, refusal) {
+        Some(spot) => spot,
+        None => return without_sheet(refusal),
+    };
     let hint = match refusal.number {
-        Refusal::EMPTY_RULE => Empty::at(sheet, refusal.place).hint(manner, sheet),
+        Refusal::EMPTY_RULE => Empty::at(sheet, refusal.place).hint(sheet),
+        _ => slips::hint(manner, &spot, part.start),
+    };
+    explained(manner, &spot, wrong(sheet, refusal, &spot), hint, refusal.place)
+}
+
+/// Explains as [`explain`] does, with a hint that is a whole repair, or none: with what it says the part is accepted, and says every
+/// word, number and sign that stood there. What is wrong is the number or the time itself, where the refusal's place is its item's.
+pub fn explain_meant(manner: Manner, sheet: &[u8], part: Range<usize>, refusal: &Refusal) -> Explanation {
+    let spot = match spot(manner, sheet, &part, refusal) {
+        Some(spot) => spot,
+        None => return without_sheet(refusal),
+    };
+    let hint = match refusal.number {
+        Refusal::EMPTY_RULE => Empty::at(sheet, refusal.place).hint_of_what_is_meant(manner, sheet),
         Refusal::WEEKS_INVERTED => inverted::hint(manner, sheet, part.clone(), refusal.place),
         _ => meant::hint(manner, sheet, part.clone()),
     };
-    let in_edition_2 = hint.is_none() && manner == Manner::Edition1 && meant::accepts(Manner::Edition2, text);
-    Explanation { wrong: wrong(sheet, refusal, &spot), hint, place: part.start + wrong_place(&spot), in_edition_2 }
+    let place = wrong_place(&spot);
+    let wrong = match refusal.number {
+        Refusal::POINT_IN_TIME if place > spot.place => {
+            format!("`{}` after `-` is no time: expected hours and minutes (`10:00-12:00`)", word(&spot.text[place..]))
+        }
+        _ => wrong(sheet, refusal, &spot),
+    };
+    explained(manner, &spot, wrong, hint, part.start + place)
+}
+
+/// What stands at the refusal's place; None if the refusal says nothing of the part.
+fn spot<'a>(manner: Manner, sheet: &'a [u8], part: &Range<usize>, refusal: &Refusal) -> Option<Spot<'a>> {
+    let is_of_part = refusal.number != Refusal::TOO_LONG && (part.start..=part.end).contains(&refusal.place);
+    if !is_of_part || part.end > sheet.len() {
+        return None;
+    }
+    let (text, place) = (&sheet[part.clone()], refusal.place - part.start);
+    Some(Spot { text, number: refusal.number, place, stage: stage(manner, text, place) })
+}
+
+fn without_sheet(refusal: &Refusal) -> Explanation {
+    Explanation { wrong: refusal.to_string(), hint: None, place: refusal.place, in_edition_2: false }
+}
+
+fn explained(manner: Manner, spot: &Spot<'_>, wrong: String, hint: Option<Hint>, place: usize) -> Explanation {
+    let in_edition_2 = hint.is_none() && manner == Manner::Edition1 && meant::accepts(Manner::Edition2, spot.text);
+    Explanation { wrong, hint, place, in_edition_2 }
 }
 
 /// Where in a text what is wrong stands.
@@ -78,12 +115,6 @@ fn wrong(sheet: &[u8], refusal: &Refusal, spot: &Spot<'_>) -> String {
         Refusal::WEEK_STEP => format!("the weeks `{}` go in steps of more than 255", word(here)),
         Refusal::YEARS_INVERTED => format!("the years `{}` run backwards: the first is after the last", word(here)),
         Refusal::WEEKS_INVERTED => format!("the weeks `{}` run backwards: the first is after the last", word(here)),
-        Refusal::POINT_IN_TIME if wrong_place(spot) > spot.place => {
-            format!(
-                "`{}` after `-` is no time: expected hours and minutes (`10:00-12:00`)",
-                word(&spot.text[wrong_place(spot)..])
-            )
-        }
         Refusal::POINT_IN_TIME => "a time alone: expected from when to when (`10:00-12:00`), or an open end (`10:00+`)".into(),
         Refusal::EASTER_DAY => "a day without a month ends a span from easter: expected a date (`easter-Apr 5`)".into(),
         Refusal::EMPTY_RULE => Empty::at(sheet, refusal.place).to_string(),

@@ -29,6 +29,12 @@ impl Hint {
         }
     }
 
+    /// What a slip proposes, said without what stands before it.
+    pub(crate) fn of_slip(range: Range<usize>, write: Vec<String>, found: String, because: String) -> Hint {
+        let because = if because.is_empty() { Vec::new() } else { vec![because] };
+        Hint { range, write, found, after: String::new(), because }
+    }
+
     pub(crate) fn because(mut self, why: &str) -> Hint {
         self.because.push(why.into());
         self
@@ -134,6 +140,7 @@ impl fmt::Display for Hint {
         match (found, shown.trim()) {
             ("", "") if write.is_empty() => write!(f, "leave it out")?,
             (_, "") if write.is_empty() => write!(f, "leave `{found}` out")?,
+            ("", "") if self.after.is_empty() => write!(f, "write a blank before it")?,
             ("", "") => write!(f, "write a blank after `{}`", self.after)?,
             (sign, "") if sign.is_ascii() && sign.trim() == sign => write!(f, "write a blank, not `{sign}`")?,
             (_, "") => write!(f, "write a blank for it")?,

@@ -16,7 +16,7 @@
 //! in the [`Manner`] that they are given: edition 1, edition 2, or the house profile.
 //! A [`Tally`] counts what they answer, and tallies can be joined.
 //! [`Rule::touches`] says whether a rule touches a day, [`rule_days`] the same of many days, and [`months`] which months a rule can touch.
-//! [`explain`] says why a part is refused and what to write instead.
+//! [`explain`] says why a part is refused and what to write instead, [`explain_meant`] with a whole repair or none.
 //! The records' words, in [`Placed`], and the refusals' numbers, in [`Refusal`], are those of `include/lorukinde.h`.
 #![warn(missing_debug_implementations)]
 #![deny(unsafe_code)]
@@ -24,7 +24,7 @@
 #[cfg(not(any(target_arch = "x86_64", doc)))]
 compile_error!("the archive is x86-64, and this build is not: tools/rust_tests.sh shows how to build for x86-64 here");
 #[cfg(all(no_archive, not(doc)))]
-compile_error!("libc_calls.a is not there: run `rt staticlib c_calls` first, or say its folder in LORUKINDE_LIB_DIR");
+compile_error!("libc_calls.a is not there: run tools/make_archive.sh first, or say its folder in LORUKINDE_LIB_DIR");
 
 #[allow(unsafe_code)]
 mod calls;
@@ -33,6 +33,7 @@ mod empty;
 mod expected;
 mod explain;
 mod feed;
+mod foreign;
 mod found;
 mod hint;
 mod house;
@@ -50,6 +51,7 @@ mod record;
 mod refusal;
 mod remarks;
 mod scan;
+mod slips;
 mod spot;
 mod table_refusal;
 mod tally;
@@ -58,7 +60,7 @@ mod words;
 use std::borrow::Cow;
 
 pub use days::{rule_days, RecordedDay, Touch};
-pub use explain::{explain, Explanation};
+pub use explain::{explain, explain_meant, Explanation};
 pub use feed::{read_feed, Feed, Line, LineAnswer, Lines};
 pub use hint::Hint;
 pub use manner::Manner;

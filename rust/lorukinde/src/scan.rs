@@ -3,9 +3,10 @@ use std::ops::Range;
 
 use crate::place::{first_character, Character};
 
-/// How many digits a year has, and at most a day, a month, a week, an hour or minutes.
+/// How many digits a year has, and at most a day, a month, a week, an hour or minutes, and a count of days.
 pub(crate) const YEAR_DIGITS: usize = 4;
 pub(crate) const SHORT_DIGITS: usize = 2;
+pub(crate) const COUNT_DIGITS: usize = 5;
 
 #[derive(Clone, Copy, Debug)]
 pub(crate) struct Scan<'a> {
@@ -68,5 +69,10 @@ impl<'a> Scan<'a> {
         }
         let word = std::str::from_utf8(&self.text[self.until(end)]).ok()?;
         (!word.is_empty()).then(|| (word.to_lowercase(), end))
+    }
+
+    /// One of these words, and the place after it.
+    pub fn one_word(self, words: &[&str]) -> Option<(String, Scan<'a>)> {
+        self.word().filter(|(word, _)| words.contains(&word.as_str()))
     }
 }

@@ -1,16 +1,16 @@
-//! What is read, in plain words: one way to say it, with the sentences of a language.
+//! What is read, in plain words: one way to say it, with the sentences of a language. (What is shown without a language is in
+//! `shown`.)
 mod dutch;
 mod english;
 mod french;
 mod german;
 mod language;
+mod shown;
 mod times;
 
-use std::fmt;
-
 use crate::meaning::{
-    Date, Dates, Day, Event, Holiday, HolidayKind, Kind, Meaning, Month, Months, Placed, Separator, Span, State, Steps, Time,
-    ToWeekday, Weekday, Weekdays,
+    Date, Dates, Day, Holiday, HolidayKind, Kind, Meaning, Month, Months, Placed, Separator, State, Steps, ToWeekday, Weekday,
+    Weekdays,
 };
 use crate::reading::Rule;
 use language::{fill, Sentences};
@@ -271,33 +271,4 @@ impl Date {
     pub fn said(&self, language: Language) -> String {
         language.sentences().date(self)
     }
-}
-
-/// What is shown in English.
-macro_rules! shown_in_english {
-    ($($kind:ty: $said:expr;)*) => {
-        $(impl fmt::Display for $kind {
-            fn fmt(&self, f: &mut fmt::Formatter<'_>) -> fmt::Result {
-                let said: fn(&$kind) -> String = $said;
-                f.write_str(&said(self))
-            }
-        })*
-    };
-}
-
-shown_in_english! {
-    Weekday: |some| ENGLISH.weekday(*some).into();
-    Month: |some| ENGLISH.month(*some).into();
-    Event: |some| ENGLISH.events[*some as usize - 1].into();
-    State: |some| ENGLISH.states[*some as usize].into();
-    Months: |some| ENGLISH.months(some);
-    Date: |some| ENGLISH.date(some);
-    Dates: |some| ENGLISH.dates(some, false);
-    Weekdays: |some| ENGLISH.weekdays(some);
-    Holiday: |some| ENGLISH.holiday(some);
-    Time: |some| ENGLISH.time(*some);
-    Span: |some| ENGLISH.span(some);
-    Meaning: |some| ENGLISH.meaning(some, false);
-    Placed: |some| ENGLISH.meaning(&some.meaning, false);
-    Rule<'_>: |some| ENGLISH.rule(some);
 }

@@ -1,7 +1,7 @@
 //! The rules of many parts over days.
 use crate::lent::{hand_over, lent, lent_mut, lent_table, manner, Words};
 use crate::parts::PartWords;
-use lorukinde::{explain, rules, Manner, Record, Refusal, Rule};
+use lorukinde::{explain_meant, rules, Language, Manner, Record, Refusal, Rule};
 use std::slice;
 
 extern "C" {
@@ -118,14 +118,14 @@ pub unsafe extern "C" fn lorukinde_say_parts(
             let note = String::from_utf8_lossy(rule.comment().unwrap_or_default());
             let first = rows.next().and_then(|row| row.iter().position(|answer| *answer == UNDECIDED));
             let why = first.map_or(String::new(), |day| undecided(&rule, days[day]).join(" and "));
-            lines.push_str(&format!("{rule}\t{note}\t{why}\n"));
+            lines.push_str(&format!("{}\t{note}\t{why}\n", rule.said(Language::English)));
         }
     }
     hand_over(&lines, lent_mut(out, out_len))
 }
 
 fn why_refused(manner: Manner, sheet: &[u8], part: &Part<'_>) -> String {
-    explain(manner, sheet, part.begin..part.end, &Refusal { number: part.number, place: part.place }).to_string()
+    explain_meant(manner, sheet, part.begin..part.end, &Refusal { number: part.number, place: part.place }).to_string()
 }
 
 /// The items of a rule that a day is undecided by: each is asked alone.
@@ -135,5 +135,5 @@ fn undecided(rule: &Rule<'_>, day: DayWords) -> Vec<String> {
         let mut answer = [[[0; 4]]];
         rule_days(&[Record::from_words(HEAD_OF_ONE), *item], 0, &[day], &mut answer) == 0 && answer[0] == UNDECIDED
     };
-    rule.records().iter().filter(|item| is_undecided(item)).map(|item| item.placed().to_string()).collect()
+    rule.records().iter().filter(|item| is_undecided(item)).map(|item| item.placed().meaning.said(Language::English)).collect()
 }

@@ -1,6 +1,6 @@
 //! Sentences.
 use crate::lent::{hand_over, lent, lent_mut, lent_table, manner};
-use lorukinde::{explain, rules, Position, Refusal};
+use lorukinde::{explain_meant, rules, Language, Position, Refusal};
 
 /// The rules of a table in plain words, one a line. A note has no byte below 32, so byte 10 parts them.
 #[no_mangle]
@@ -13,7 +13,7 @@ pub unsafe extern "C" fn lorukinde_say_rules(
     out_len: usize,
 ) -> usize {
     let rules = rules(lent(sheet, sheet_len), lent_table(table, table_len));
-    let said: Vec<String> = rules.map(|rule| rule.to_string()).collect();
+    let said: Vec<String> = rules.map(|rule| rule.said(Language::English)).collect();
     hand_over(&said.join("\n"), lent_mut(out, out_len))
 }
 
@@ -32,7 +32,7 @@ pub unsafe extern "C" fn lorukinde_say_refusal(
 ) -> usize {
     let refusal = Refusal { number, place };
     let said = match manner(manner_number) {
-        Some(manner) => explain(manner, lent(sheet, sheet_len), begin..end, &refusal).to_string(),
+        Some(manner) => explain_meant(manner, lent(sheet, sheet_len), begin..end, &refusal).to_string(),
         None => Refusal { number: Refusal::UNKNOWN_EDITION, place: 0 }.to_string(),
     };
     hand_over(&said, lent_mut(out, out_len))

@@ -1,6 +1,8 @@
 //! Words as operators write them, and how the sheet rules write what they mean.
 use std::collections::HashMap;
 
+use crate::names::MONTHS;
+
 /// The languages of the columns of [`WORDS`]. English is known to all.
 pub(crate) const LANGUAGES: usize = 6;
 const ENGLISH: usize = 0;
@@ -370,6 +372,12 @@ pub(crate) fn is_nearly_known(word: &str) -> bool {
     let known =
         rows.flat_map(|(_, cells)| cells.iter().flat_map(|cell| cell.split(','))).filter(|known| known.len() > 3).chain(NAMES);
     let letters: Vec<char> = word.chars().collect();
+    let is_month = |name: &&str| {
+        letters.len() == name.len() + 1 && distance(&letters, &name.to_lowercase().chars().collect::<Vec<char>>()) == 1
+    };
+    if MONTHS.iter().any(is_month) {
+        return true; // `Decc`
+    }
     known.map(|name| (name, name.chars().collect::<Vec<char>>())).any(|(name, known)| {
         let is_part = known.len() >= SHORT && word.contains(name); // `Freitagabend`
         let most = if known.len() <= SHORT { 1 } else { 2 };

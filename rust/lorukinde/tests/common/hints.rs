@@ -1,6 +1,6 @@
 //! Hints applied to sheets, and readings compared.
 #![allow(dead_code)] // each test file takes what it needs
-use lorukinde::{explain, parts_in, Explanation, Manner, Record, Refusal};
+use lorukinde::{explain_meant, parts_in, Explanation, Manner, Record, Refusal};
 
 pub fn manner(name: &str) -> Manner {
     match name {
@@ -14,7 +14,7 @@ pub fn manner(name: &str) -> Manner {
 /// The refused parts of a sheet, each with its explanation.
 pub fn refused(manner: Manner, sheet: &[u8]) -> Vec<(Refusal, Explanation)> {
     let refused = parts_in(manner, sheet).filter_map(|part| Some((part.range, part.reading.err()?)));
-    refused.map(|(range, refusal)| (refusal, explain(manner, sheet, range, &refusal))).collect()
+    refused.map(|(range, refusal)| (refusal, explain_meant(manner, sheet, range, &refusal))).collect()
 }
 
 /// What each proposal of a hint makes of a sheet.

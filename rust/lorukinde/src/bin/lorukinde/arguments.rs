@@ -23,7 +23,8 @@ pub enum Request {
 pub struct Run {
     pub command: Command,
     pub manner: Manner,
-    pub language: Language,
+    /// None: as `say` says rules where no language is asked for.
+    pub language: Option<Language>,
     /// The year of which a page shows the days.
     pub year: Year,
     /// A remark counts as much as a refusal.
@@ -60,7 +61,7 @@ struct Found {
     to: Option<RecordedDay>,
     only: Option<Vec<Touch>>,
     year: Option<Year>,
-    language: Language,
+    language: Option<Language>,
     is_strict: bool,
     has_comments: bool,
     inputs: Vec<Argument>,
@@ -158,7 +159,7 @@ impl Found {
         let value = || value.or_else(next);
         match name {
             "--edition" => self.edition = Some(edition(value().as_deref())?),
-            "--language" => self.language = language(value().as_deref())?,
+            "--language" => self.language = Some(language(value().as_deref())?),
             "--from" => self.from = Some(day(name, value().as_deref())?),
             "--to" => self.to = Some(day(name, value().as_deref())?),
             "--only" => self.only = Some(only(value().as_deref())?),

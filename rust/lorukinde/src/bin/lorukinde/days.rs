@@ -3,7 +3,7 @@ use std::io::Write;
 use std::ops::Range;
 use std::os::unix::ffi::OsStrExt;
 
-use lorukinde::{explain, Reading, Record, RecordedDay, Refusal, Rule, Touch};
+use lorukinde::{explain_meant, Reading, Record, RecordedDay, Refusal, Rule, Touch};
 
 use crate::json::Writer;
 use crate::sheet::{Found, Sheet};
@@ -71,8 +71,11 @@ fn accepted(asked: &Days, sheet: &Sheet<'_>, part: usize, reading: &Reading<'_>,
 /// One row, or one object, that says so.
 fn refused(asked: &Days, sheet: &Sheet<'_>, part: usize, range: Range<usize>, refusal: &Refusal, out: &mut Vec<u8>) {
     let column = refusal.position(sheet.text()).column;
-    let said =
-        format!("refusal {} at character {column}: {}", refusal.number, explain(sheet.manner, sheet.text(), range, refusal));
+    let said = format!(
+        "refusal {} at character {column}: {}",
+        refusal.number,
+        explain_meant(sheet.manner, sheet.text(), range, refusal)
+    );
     if asked.json {
         let mut w = Writer::new(out);
         w.object();

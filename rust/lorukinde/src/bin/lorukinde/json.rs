@@ -38,16 +38,13 @@ fn one_part(w: &mut Writer<'_>, sheet: &Sheet<'_>, part: Range<usize>, reading: 
     w.object();
     w.key("range").range(&(part.start..end));
     match &reading {
-        Ok(reading) => accepted(w, sheet, part, reading),
+        Ok(reading) => accepted(w, sheet, part, reading, remarks),
         Err(refusal) => refused(w, sheet, part, refusal),
     }
-    w.key("remarks").array();
-    remarks.iter().for_each(|remark| one_remark(w, sheet, remark));
-    w.end_array();
     w.end_object();
 }
 
-fn accepted(w: &mut Writer<'_>, sheet: &Sheet<'_>, part: Range<usize>, reading: &Reading<'_>) {
+fn accepted(w: &mut Writer<'_>, sheet: &Sheet<'_>, part: Range<usize>, reading: &Reading<'_>, remarks: &[Remark]) {
     w.key("number").number(0);
     w.key("place").number(0);
     w.key("rules").array();
@@ -62,16 +59,18 @@ fn accepted(w: &mut Writer<'_>, sheet: &Sheet<'_>, part: Range<usize>, reading: 
         w.end_object();
     }
     w.end_array();
+    if !remarks.is_empty() {
+        w.key("remarks").array();
+        remarks.iter().for_each(|remark| one_remark(w, sheet, remark));
+        w.end_array();
+    }
 }
 
 fn refused(w: &mut Writer<'_>, sheet: &Sheet<'_>, part: Range<usize>, refusal: &Refusal) {
     let explanation = explain(sheet.manner, sheet.text(), part, refusal);
     w.key("number").number(refusal.number);
     w.key("place").number(refusal.place);
-    w.key("rules").array();
-    w.end_array();
-    w.key("column").number(Position::of(sheet.text(), explanation.place).column);
-    w.key("caret").number(explanation.place);
+    w.key("column").number(Position::of(sheet.text(), refusal.place).column);
     w.key("sentence").text(&explanation.to_string());
     hint(w, &explanation.hint);
 }

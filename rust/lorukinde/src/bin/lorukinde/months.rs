@@ -2,7 +2,7 @@
 use std::fmt::{self, Write};
 use std::ops::Range;
 
-use lorukinde::{explain, months as entries_of, Entry, Reading, Record, Refusal};
+use lorukinde::{explain_meant, months as entries_of, Entry, Language, Reading, Record, Refusal};
 
 use crate::plain::Plain;
 use crate::sheet::{Found, Sheet};
@@ -24,7 +24,7 @@ pub fn months(sheet: &Sheet<'_>, table: &mut [Record], out: &mut Vec<u8>) -> Fou
 fn rules(reading: &Reading<'_>, out: &mut Vec<u8>) -> fmt::Result {
     let entries = entries_of(reading.records()).unwrap_or_default(); // a reading's records fit
     for (rule, entry) in reading.rules().zip(entries) {
-        write!(Plain(out), "  {}: {rule}", names(&entry))?;
+        write!(Plain(out), "  {}: {}", names(&entry), rule.said(Language::English))?;
         out.push(b'\n');
     }
     Ok(())
@@ -41,7 +41,7 @@ fn names(entry: &Entry) -> String {
 
 fn refused(sheet: &Sheet<'_>, part: Range<usize>, refusal: &Refusal, out: &mut Vec<u8>) -> fmt::Result {
     let column = refusal.position(sheet.text()).column;
-    let explanation = explain(sheet.manner, sheet.text(), part, refusal);
+    let explanation = explain_meant(sheet.manner, sheet.text(), part, refusal);
     write!(Plain(out), "  not read, refusal {} at character {column}: {explanation}", refusal.number)?;
     out.push(b'\n');
     Ok(())

@@ -53,7 +53,7 @@ pub struct Page {
 impl Page {
     pub fn new(run: &Run) -> Page {
         Page {
-            texts: Texts::of(run.language),
+            texts: Texts::of(run.language.unwrap_or_default()),
             year: run.year,
             list: Html::default(),
             refused: Vec::new(),

@@ -9,7 +9,7 @@ use crate::input::Line;
 #[derive(Clone, Copy)]
 pub struct Sheet<'a> {
     pub manner: Manner,
-    pub language: Language,
+    pub language: Option<Language>,
     pub input: &'a OsStr,
     pub line: Line<'a>,
 }

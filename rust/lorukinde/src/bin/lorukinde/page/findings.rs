@@ -1,7 +1,7 @@
 //! What is to be said of a sheet's text: parts that are refused, and remarks on what was read.
 use std::ops::Range;
 
-use lorukinde::{characters, explain, unusual_names, Position, Reading, Refusal, Remark};
+use lorukinde::{characters, explain_meant, unusual_names, Position, Reading, Refusal, Remark};
 
 use super::html::Html;
 use super::marked::{Kind, Mark};
@@ -34,7 +34,7 @@ impl Said {
 
 impl Findings {
     pub fn refused(&mut self, texts: &Texts, sheet: &Sheet<'_>, part: Range<usize>, refusal: &Refusal) {
-        let explanation = explain(sheet.manner, sheet.text(), part.clone(), refusal);
+        let explanation = explain_meant(sheet.manner, sheet.text(), part.clone(), refusal);
         let place = word_at(sheet.text(), explanation.place, part.end);
         let refused = without_blanks(sheet.text(), part);
         self.0.push(Finding {
