@@ -1,6 +1,5 @@
 -- Weeks: after `week` and a blank, `W`, `W-W`, `W-W/N` (docs/RULES.md, 2).
-use Rattle.std.specs.Prelude.{not, ltb}
-use Rattle.names.specs.Tests.{if◌then◌else◌}
+use Rattle.std.specs.Prelude.{not, ltb, if◌then◌else◌}
 use Rattle.names.specs.Read.{Reader, pure, ◌>>=◌, ◌or◌}
 use Rattle.names.specs.Numbers.{short}
 use Rattle.names.specs.Refusals.{range, week_step, weeks_inverted}

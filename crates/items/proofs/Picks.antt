@@ -1,10 +1,9 @@
 -- An item of one of several kinds, from what stands at a place.
-use Rattle.std.specs.Prelude.{if◌then◌else◌}
+use Rattle.std.specs.Prelude.{if◌then◌else◌, if◌then◌else◌}
 use Prim.Native.Nat.{ℕ}
 use mathlib.Core.Bool.{Bool, true, false, ◌||◌, true≢false}
 use mathlib.Core.List.{List, [], ◌∷◌, ◌++◌}
 use mathlib.Core.Path.{◌≡◌, refl, sym, ◌∙◌}
-use Rattle.names.specs.Tests.{if◌then◌else◌}
 use Rattle.names.specs.Read.{Read, got, none, refused, follow, pure}
 use Rattle.names.specs.Numbers.{year}
 use Rattle.names.specs.Names.{word}

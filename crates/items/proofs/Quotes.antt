@@ -1,4 +1,5 @@
 -- A broken quote is one in a text alone and in a longer one: before a `;` outside quotes a quote that opens has its closing quote.
+use Rattle.std.specs.Prelude.{if◌then◌else◌}
 use Prim.Native.Nat.{ℕ, suc, ◌+◌, ◌≤◌, ◌<◌}
 use mathlib.Core.List.{List, [], ◌∷◌, ◌++◌, append-nil}
 use mathlib.Core.Bool.{Bool, true, false, ◌||◌, not, true≢false}

@@ -1,6 +1,5 @@
 -- What has to stand at a place, and what is said where it does not (docs/RULES.md, 6).
-use Rattle.std.specs.Prelude.{ℕ, suc, List, [], ◌∷◌, Bool, false, ◌&&◌, ◌||◌, not, eqb, get_or, drop}
-use Rattle.names.specs.Tests.{if◌then◌else◌}
+use Rattle.std.specs.Prelude.{ℕ, suc, List, [], ◌∷◌, Bool, false, ◌&&◌, ◌||◌, not, eqb, get_or, drop, if◌then◌else◌}
 use Rattle.names.specs.Read.{Reader, refused, branch, pure, ◌>>◌}
 use Rattle.names.specs.Texts.{blanks}
 use Rattle.names.specs.Refusals.{no_shape, broken_quote}

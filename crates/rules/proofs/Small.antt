@@ -1,5 +1,5 @@
 -- A comment that is read stands in its text: its start and its length are at most the text's length.
-use Rattle.std.specs.Prelude.{if◌then◌else◌}
+use Rattle.std.specs.Prelude.{if◌then◌else◌, if◌then◌else◌}
 use Prim.Native.Nat.{ℕ, ◌≤◌}
 use mathlib.Core.Bool.{Bool, true, false}
 use mathlib.Core.List.{List}
@@ -7,7 +7,6 @@ use mathlib.Core.Path.{◌≡◌, subst}
 use native.Mathlib.Omega.{arith}
 use lib.Dec.{eqb}
 use lib.ListN.{length}
-use Rattle.names.specs.Tests.{if◌then◌else◌}
 use Rattle.names.specs.Read.{Read, got, follow, branch, nothing, pure, refuse, map, ◌or◌}
 use Rattle.names.specs.Texts.{byte, bytes, blank, blanks, all_of}
 use Rattle.names.specs.Spellings.{named}

@@ -1,6 +1,5 @@
 -- One rule, and what parts it from the next (docs/RULES.md, 1).
-use Rattle.std.specs.Prelude.{ℕ, ◌+◌, List, [], ◌∷◌, eqb, length}
-use Rattle.names.specs.Tests.{if◌then◌else◌}
+use Rattle.std.specs.Prelude.{ℕ, ◌+◌, List, [], ◌∷◌, eqb, length, if◌then◌else◌}
 use Rattle.names.specs.Read.{Reader, pure, here, map, ◌>>=◌, ◌>>◌, ◌or◌}
 use Rattle.names.specs.Chain.{chain}
 use Rattle.names.specs.Texts.{bytes, sign, all_of}
