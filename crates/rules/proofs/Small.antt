@@ -1,5 +1,5 @@
 -- A comment that is read stands in its text: its start and its length are at most the text's length.
-use Rattle.std.specs.Prelude.{if◌then◌else◌, if◌then◌else◌}
+use Rattle.std.specs.Prelude.{if◌then◌else◌}
 use Prim.Native.Nat.{ℕ, ◌≤◌}
 use mathlib.Core.Bool.{Bool, true, false}
 use mathlib.Core.List.{List}
