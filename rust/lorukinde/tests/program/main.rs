@@ -157,17 +157,18 @@ fn manners() {
     assert_eq!(run(&["say", "--house"], "10:00+; Tu").out.lines().last(), Some("  open: Tuesday"));
 }
 
-/// Accepted, but is it meant? Exit code 0 stays, but for --strict.
+/// Accepted, but is it meant? `check` and `json` say so under --strict alone, and then the exit code is 1.
 #[test]
 fn remarks() {
     let sheet = "Mo-Fr 9:00-12:00; 14:00-18:00";
     let sentence = "`14:00-18:00` holds on every day: after `;` a rule begins, and this one has no days; write `,`, not `;`";
     let checked = format!("-e:1:19: 0: remark: {sentence}\n");
-    assert_eq!(run(&["check", "-e", sheet], ""), Ran::new(0, &checked, ""));
+    assert_eq!(run(&["check", "-e", sheet], ""), Ran::new(0, "", ""));
     assert_eq!(run(&["check", "--strict", sheet], ""), Ran::new(1, &checked, ""));
     assert_eq!(run(&["check", "--strict", "Mo-Fr 9:00-12:00"], ""), Ran::new(0, "", ""));
     assert!(run(&["say", "--language", "en", sheet], "").out.ends_with(&format!("  remark at character 19: {sentence}\n")));
-    let object = json::parse(run(&["json", sheet], "").out.trim_end());
+    assert!(!run(&["json", sheet], "").out.contains("remarks"));
+    let object = json::parse(run(&["json", "--strict", sheet], "").out.trim_end());
     let remark = &object["parts"][1]["remarks"][0];
     assert_eq!((remark["place"].clone(), remark["column"].clone()), (Json::Number(18), Json::Number(19)));
     assert_eq!((remark["sentence"].text(), remark["hint"]["write"][0].text()), (sentence, ","));

@@ -27,7 +27,7 @@ pub struct Run {
     pub language: Option<Language>,
     /// The year of which a page shows the days.
     pub year: Year,
-    /// A remark counts as much as a refusal.
+    /// `check` and `json` say remarks too, and a remark counts as much as a refusal.
     pub is_strict: bool,
     /// Blank lines and those that begin with `#` are passed over.
     pub has_comments: bool,

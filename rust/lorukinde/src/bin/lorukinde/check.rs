@@ -1,4 +1,4 @@
-//! `lorukinde check`: what is refused, remarks, and the names with unusual capitals, in lines as compilers write them.
+//! `lorukinde check`: what is refused, the names with unusual capitals and, under `--strict`, remarks, in lines as compilers write them.
 use std::fmt::{Display, Write};
 use std::os::unix::ffi::OsStrExt;
 
@@ -25,8 +25,10 @@ pub fn check(sheet: &Sheet<'_>, table: &mut [Record], out: &mut Vec<u8>) -> Foun
                 line(sheet, explanation.place, refusal.number, &explanation, out);
             }
         }
-        for remark in remarks {
-            line(sheet, remark.place, ACCEPTED, &format!("remark: {remark}"), out);
+        if sheet.is_strict {
+            for remark in remarks {
+                line(sheet, remark.place, ACCEPTED, &format!("remark: {remark}"), out);
+            }
         }
     })
 }

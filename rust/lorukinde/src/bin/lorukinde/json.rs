@@ -59,7 +59,7 @@ fn accepted(w: &mut Writer<'_>, sheet: &Sheet<'_>, part: Range<usize>, reading: 
         w.end_object();
     }
     w.end_array();
-    if !remarks.is_empty() {
+    if sheet.is_strict && !remarks.is_empty() {
         w.key("remarks").array();
         remarks.iter().for_each(|remark| one_remark(w, sheet, remark));
         w.end_array();

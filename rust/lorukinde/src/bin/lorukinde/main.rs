@@ -131,7 +131,7 @@ fn read_input(
         if run.has_comments && line.is_comment() {
             continue;
         }
-        let sheet = Sheet { manner: run.manner, language: run.language, input: input.name(), line };
+        let sheet = Sheet { manner: run.manner, language: run.language, is_strict: run.is_strict, input: input.name(), line };
         let text = output.text();
         let found = match &run.command {
             Command::Say => say::say(&sheet, table, text),

@@ -10,6 +10,8 @@ use crate::input::Line;
 pub struct Sheet<'a> {
     pub manner: Manner,
     pub language: Option<Language>,
+    /// `check` and `json` say remarks too.
+    pub is_strict: bool,
     pub input: &'a OsStr,
     pub line: Line<'a>,
 }
