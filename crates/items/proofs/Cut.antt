@@ -26,7 +26,7 @@ use Rattle.items.proofs.Quotes.{missing_alike, missing_number}
 
 -- a refusal here, by a number that the bytes here tell
 refused_here : {A : Type 0} {sh : ℕ → A → A} {u : List ℕ} {k : ℕ} → Local Stop sh u false false k (λ s p. refused (missing_at s p) p) (λ s p. refused (missing_at s p) p)
-refused_here {A} {sh} {u} = record { ends = λ s v i z w. tt; same = λ s v i z w. rw (missing_alike u s v i z w); near = λ s i h. (missing_number s i, omega arith) }
+refused_here {A} {sh} {u} = record { ends = λ s v i z w. let n = missing_number s i in (n.0, n.1.0); same = λ s v i z w. rw (missing_alike u s v i z w); near = λ s i h. (missing_number s i, omega arith) }
 
 pub missing_local : {A : Type 0} {sh : ℕ → A → A} {u : List ℕ} {k : ℕ} → Local Stop sh u false false k missing missing
 unfolding missing

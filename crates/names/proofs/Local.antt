@@ -50,6 +50,10 @@ Allowed First k = Unit {0}
 Allowed Second k = k ≡ point_in_time → ⊥
 Allowed House k = Unit {0}
 
+-- a number of the table
+abbrev pub Listed : ℕ → Type 0
+Listed k = (0 < k) × (k ≤ greatest)
+
 -- the numbers that a reader refuses by
 abbrev pub Number : Manner → ℕ → Type 0
 Number e k = (0 < k) × ((k ≤ greatest) × Allowed e k)
@@ -60,11 +64,11 @@ number_any First h = (h.0, (h.1.0, tt))
 number_any Second h = h
 number_any House h = (h.0, (h.1.0, tt))
 
--- where a reading found something, the place after it is so
+-- where a reading found something, the place after it is so; where it is refused, its number is one of the table, at any place
 abbrev pub Ends : {A : Type 0} → (ℕ → Type 0) → Read A → Type 0
 Ends P (got a j) = P j
 Ends P none = Unit {0}
-Ends P (refused k p) = Unit {0}
+Ends P (refused k p) = Listed k
 
 -- a refusal has a number of the manner e and is at a place up to n
 abbrev pub Near : {A : Type 0} → Manner → ℕ → Read A → Type 0
@@ -167,7 +171,7 @@ module _ {e : Manner} {Q : Tail} {u : List ℕ} where
 
   -- a refusal
   pub refuse_local : {A : Type 0} {sh : ℕ → A → A} {a c : Bool} {l : ℕ} (k p : ℕ) → Number e k → LocalFrom e p Q sh u a c l (refuse k (length u + p)) (refuse k p)
-  refuse_local k p h = record { ends = λ s v i z w. tt; same = λ s v i z w. refl; near = λ s i l. (h, l) }
+  refuse_local k p h = record { ends = λ s v i z w. (h.0, h.1.0); same = λ s v i z w. refl; near = λ s i l. (h, l) }
 
   -- the place
   pub here_local : {a : Bool} → LocalIn e Q (λ n p. n + p) u a a 0 here here
