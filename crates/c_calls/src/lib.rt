@@ -14,16 +14,9 @@ use calls::{
 };
 use feed::read_feed_bytes;
 pub use figures::{lorukinde_tally_add, lorukinde_tally_join};
-use notes::note_part;
+use notes::{NotePart, note_part};
 pub use rule_calls::{lorukinde_renew_months, lorukinde_rule_days, lorukinde_rule_months};
 use sheet::{Answer, PartAnswer};
-
-// 1 or 0.
-fn flag_of(x: bool) -> u32
-    ensures { result ≡ flag x }
-{
-    if x { 1 } else { 0 }
-}
 
 // A reading's numbers: the number is returned, place, records and warnings are stored.
 fn answer_numbers(a: Answer, place: &mut u32, records: &mut u32, warnings: &mut u32) -> u32
@@ -52,7 +45,7 @@ fn part_numbers(
     *records = part.records as u32;
     *warnings = part.warnings as u32;
     *next = part.next as u32;
-    *last = flag_of(part.last);
+    *last = u32::from(part.last);
     part.number as u32
 }
 
@@ -165,10 +158,13 @@ pub fn lorukinde_note(
 ) -> u32
     ensures { (result ∷ from.new ∷ to.new ∷ []) ≡ note_call sheet_len note_len start length }
 {
-    let part = note_part(sheet_len, note_len, start, length);
-    *from = part.from;
-    *to = part.to;
-    flag_of(part.sheets)
+    let (flag, begin, end) = match note_part(sheet_len, note_len, start, length) {
+        NotePart::Sheet { from, to } => (1, from, to),
+        NotePart::Standing { from, to } => (0, from, to),
+    };
+    *from = begin;
+    *to = end;
+    flag
 }
 
 // Reads a feed: the number is returned, lines and records are stored.

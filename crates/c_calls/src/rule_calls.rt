@@ -2,6 +2,7 @@
 ghost use Rattle.std.specs.Prelude.{◌≡◌};
 ghost use Rattle.c_calls.specs.RuleCalls as calls;
 
+use lent_slots::Table;
 use months::{renew_months, rule_months};
 use touched::rule_days;
 
@@ -9,16 +10,14 @@ use touched::rule_days;
 pub fn lorukinde_rule_days(table: &[u8], rule: usize, days: &[u8], answers: &mut [u8]) -> u32
     ensures { (result, answers.new) ≡ calls.days_call table.now rule days.now answers.old }
 {
-    let none = [0i32; 0];
-    rule_days(&none, table, rule, days, answers)
+    rule_days(Table::of_bytes(table), rule, days, answers)
 }
 
 // Builds the list of entries of a table's rules: the number is returned, an entry for each rule is written.
 pub fn lorukinde_rule_months(table: &[u8], entries: &mut [u8]) -> u32
     ensures { (result, entries.new) ≡ calls.months_call table.now entries.old }
 {
-    let none = [0i32; 0];
-    rule_months(&none, table, entries)
+    rule_months(Table::of_bytes(table), entries)
 }
 
 // Renews a list of entries after a part of its sheet was exchanged: the number is returned.
@@ -31,6 +30,5 @@ pub fn lorukinde_renew_months(
 ) -> u32
     ensures { (result, entries.new) ≡ calls.renew_call entries.old rules first old_records table.now }
 {
-    let none = [0i32; 0];
-    renew_months(&none, table, entries, rules, first, old_records)
+    renew_months(Table::of_bytes(table), entries, rules, first, old_records)
 }

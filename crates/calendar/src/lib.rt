@@ -7,6 +7,7 @@ ghost use Rattle.calendar.specs.Calendar as calendar;
 use names::within;
 
 // A leap year is divisible by 4 and not by 100, unless by 400.
+#[tactic(auto, unfolding(crate::specs::Calendar::leap))]
 pub fn leap(y: u16) -> bool
     ensures { result ≡ calendar.leap y }
 {
@@ -14,16 +15,15 @@ pub fn leap(y: u16) -> bool
 }
 
 // The last day of February: 29 in a leap year, and without a year.
+#[tactic(auto, unfolding(crate::specs::Calendar::last_of_february))]
 fn last_of_february(y: u16) -> u8
     ensures { result ≡ calendar.last_of_february y }
 {
-    if y == 0 {
-        return 29;
-    }
-    if leap(y) { 29 } else { 28 }
+    if y == 0 || leap(y) { 29 } else { 28 }
 }
 
 // The last day of month m of year y.
+#[tactic(auto, unfolding(crate::specs::Calendar::last_of, crate::specs::Calendar::has_thirty))]
 pub fn last_of(y: u16, m: u8) -> u8
     ensures { result ≡ calendar.last_of y m }
 {
@@ -35,12 +35,9 @@ pub fn last_of(y: u16, m: u8) -> u8
 }
 
 // Whether year y has a month m with a day d.
+#[tactic(auto, unfolding(crate::specs::Calendar::is_day))]
 pub fn is_day(y: u16, m: u8, d: u8) -> bool
     ensures { result ≡ calendar.is_day y m d }
 {
-    if within(1, 12, m as u32) {
-        within(1, last_of(y, m) as u32, d as u32)
-    } else {
-        false
-    }
+    within(1, 12, m as u32) && within(1, last_of(y, m) as u32, d as u32)
 }

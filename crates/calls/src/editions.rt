@@ -2,18 +2,16 @@
 ghost use Rattle.std.specs.Prelude.{◌≡◌};
 ghost use Rattle.calls.specs.Editions as editions;
 
-use crate::Edition;
 use names::Manner;
 
-// 1 and 2 are known.
-pub fn edition_of(n: u32) -> Edition
+// The manner of an edition's reading: 1 and 2 are known.
+#[tactic(auto, unfolding(crate::specs::Editions::edition_of))]
+pub fn edition_of(n: u32) -> Option<Manner>
     ensures { result ≡ editions.edition_of n }
 {
-    if n == 1 {
-        return Edition::Known(Manner::First);
+    match n {
+        1 => Some(Manner::First),
+        2 => Some(Manner::Second),
+        _ => None,
     }
-    if n == 2 {
-        return Edition::Known(Manner::Second);
-    }
-    Edition::Unknown
 }

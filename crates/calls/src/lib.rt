@@ -9,13 +9,5 @@ mod sheet_calls;
 pub use houses::{
     read_house_part, read_house_part_bytes, read_house_sheet, read_house_sheet_bytes,
 };
-use names::Manner;
 pub use part_calls::{read_part, read_part_bytes, read_part_bytes_in, read_part_in};
 pub use sheet_calls::{read_sheet, read_sheet_bytes, read_sheet_bytes_in, read_sheet_in};
-
-// An edition of the rules, named by its number: the manner of its reading, or none that is known.
-#[derive(Clone, Copy)]
-pub enum Edition {
-    Known(Manner),
-    Unknown,
-}

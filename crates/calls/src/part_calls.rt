@@ -3,12 +3,11 @@ ghost use Rattle.std.specs.Prelude.{◌≡◌};
 ghost use Rattle.sheet.specs.PartReadings as parts;
 ghost use Rattle.calls.specs.Editions as editions;
 
-use crate::Edition;
 use crate::editions::edition_of;
-use names::{Manner, UNKNOWN_EDITION};
+use names::{Manner, Reason};
 use sheet::{PartAnswer, part_into, part_refusal};
 
-// The part that begins at a place is read into a table of words, in a manner.
+// The part that begins at a place is read into a table of words, in a manner. (Two functions, as `sheet_words` and `sheet_bytes` are.)
 pub fn part_words(sheet: &[u8], m: Manner, place: usize, table: &mut [i32]) -> PartAnswer
     ensures { (result, table.new) ≡ parts.part_reading_by m sheet.now place table.old }
 {
@@ -39,23 +38,23 @@ pub fn read_part_bytes(sheet: &[u8], place: usize, table: &mut [u8]) -> PartAnsw
 }
 
 // The part that begins at a place is read in an edition into a table of words.
+#[tactic(auto, unfolding(crate::specs::Editions::part_reading_in))]
 pub fn read_part_in(edition: u32, sheet: &[u8], place: usize, table: &mut [i32]) -> PartAnswer
     ensures { (result, table.new) ≡ editions.part_reading_in edition sheet.now place table.old }
 {
-    let named = edition_of(edition);
-    match named {
-        Edition::Known(m) => part_words(sheet, m, place, table),
-        Edition::Unknown => part_refusal(UNKNOWN_EDITION),
+    match edition_of(edition) {
+        Some(m) => part_words(sheet, m, place, table),
+        None => part_refusal(Reason::UnknownEdition as u8),
     }
 }
 
 // The part that begins at a place is read in an edition into a table of bytes.
+#[tactic(auto, unfolding(crate::specs::Editions::part_reading_bytes_in))]
 pub fn read_part_bytes_in(edition: u32, sheet: &[u8], place: usize, table: &mut [u8]) -> PartAnswer
     ensures { (result, table.new) ≡ editions.part_reading_bytes_in edition sheet.now place table.old }
 {
-    let named = edition_of(edition);
-    match named {
-        Edition::Known(m) => part_bytes(sheet, m, place, table),
-        Edition::Unknown => part_refusal(UNKNOWN_EDITION),
+    match edition_of(edition) {
+        Some(m) => part_bytes(sheet, m, place, table),
+        None => part_refusal(Reason::UnknownEdition as u8),
     }
 }

@@ -1,21 +1,27 @@
 // A sheet, and the same with one part exchanged: every other part has its old answer and records, its places moved.
-ghost use Rattle.std.specs.Prelude.{◌+◌, ◌≤◌, length};
 
 use crate::lines::digit;
-use crate::readings::fresh_table;
+use crate::readings::{first_words, fresh_table};
 use calls::read_part;
 use notes::note;
 use prints::print_number;
 use sheet::PartAnswer;
 use std::io::Error;
 
-// The reading of a part in both sheets: whether it is the same, whether it was the last, and the next parts' places.
+// A part: its sheet, its place there, and what its reading gave.
+#[derive(Clone, Copy)]
+struct Part<'a> {
+    sheet: &'a [u8],
+    place: usize,
+    answer: PartAnswer,
+    table: &'a [i32],
+}
+
+// The reading of a part in both sheets: whether it is the same, and the next parts' places, unless it was the last.
 #[derive(Clone, Copy)]
 struct Pair {
     is_same: bool,
-    is_last: bool,
-    one_next: usize,
-    other_next: usize,
+    next: Option<(usize, usize)>,
 }
 
 // How many parts are read alike, and how many are not.
@@ -27,231 +33,139 @@ struct Tally {
 
 impl Tally {
     // One part more. (Of 4,097 none is left out.)
-    fn counted(self, is_same: bool) -> Tally {
+    fn count(&mut self, is_same: bool) {
         if is_same {
-            return Tally {
-                same: std::num::wrapping_add_u64(self.same, 1),
-                other: self.other,
-            };
-        }
-        Tally {
-            same: self.same,
-            other: std::num::wrapping_add_u64(self.other, 1),
+            self.same = self.same.saturating_add(1);
+        } else {
+            self.other = self.other.saturating_add(1);
         }
     }
 }
 
-// A place counted from a part's beginning; a 0 that stays is left.
-fn from(place: usize, beginning: usize, stays: bool) -> usize {
-    if stays {
-        return place;
+// Reads the part at a place.
+fn read<'a>(sheet: &'a [u8], place: usize, table: &'a mut [i32]) -> Part<'a> {
+    let answer = read_part(sheet, place, table);
+    Part {
+        sheet,
+        place,
+        answer,
+        table,
     }
-    std::num::wrapping_sub_usize(place, beginning)
 }
 
-// Whether the part at p and that at q have the same answer, places moved.
-fn is_same_answer(a: PartAnswer, p: usize, b: PartAnswer, q: usize) -> bool {
-    if a.number != b.number {
-        return false;
+impl<'a> Part<'a> {
+    // A place counted from the part's beginning.
+    fn from(self, place: usize) -> usize {
+        place.wrapping_sub(self.place)
     }
-    if a.records != b.records {
-        return false;
-    }
-    if a.warnings != b.warnings {
-        return false;
-    }
-    if a.last != b.last {
-        return false;
-    }
-    if from(a.place, p, a.number == 0) != from(b.place, q, b.number == 0) {
-        return false;
-    }
-    from(a.next, p, a.last) == from(b.next, q, b.last)
-}
 
-// Whether so many words from a place on are the same in both tables.
-fn is_same_words(t: &[i32], u: &[i32], at: usize, n: usize) -> bool
-    requires n_in_bounds { at + n ≤ length t.now }
-    requires n_in_bounds_2 { at + n ≤ length u.now }
-{
-    let mut i = 0;
-    while i < n {
-        if t[at + i] != u[at + i] {
-            return false;
+    // The place of a refusal, counted so; a 0 where there is none is left.
+    fn refused_at(self) -> usize {
+        if self.answer.number == 0 {
+            self.answer.place
+        } else {
+            self.from(self.answer.place)
         }
-        i += 1;
     }
-    true
-}
 
-// Whether the comments of two heads have the same bytes.
-fn is_same_comment(
-    one: &[u8],
-    start: i32,
-    length: i32,
-    other: &[u8],
-    begin: i32,
-    size: i32,
-) -> bool {
-    check::same(
-        note(one, &one[..0], start, length),
-        note(other, &other[..0], begin, size),
-    )
-}
-
-// A record's place counted from a part's beginning.
-fn place_from(place: i32, beginning: usize) -> usize {
-    if place < 0 {
-        return 0;
+    // The next part's place, counted so; a 0 after the last is left.
+    fn next(self) -> usize {
+        if self.answer.last {
+            self.answer.next
+        } else {
+            self.from(self.answer.next)
+        }
     }
-    from(place as usize, beginning, false)
+
+    // The place of a record, counted so.
+    fn place_of(self, record: &[i32; 16]) -> usize {
+        if record[15] < 0 {
+            0
+        } else {
+            self.from(record[15] as usize)
+        }
+    }
+
+    // The bytes of a head's comment.
+    fn comment(self, head: &[i32; 16]) -> &'a [u8] {
+        note(self.sheet, &self.sheet[..0], head[3], head[4])
+    }
 }
 
-// Whether the record from a place on, of the part at p and of that at q, is the same in both tables, places moved; a comment by its bytes and not by its place.
-fn is_same_record(
-    one: &[u8],
-    p: usize,
-    t: &[i32],
-    other: &[u8],
-    q: usize,
-    u: &[i32],
-    at: usize,
-) -> bool
-    requires at_in_bounds { at + 16 ≤ length t.now }
-    requires at_in_bounds_2 { at + 16 ≤ length u.now }
-{
-    if place_from(t[at + 15], p) != place_from(u[at + 15], q) {
+// Whether two parts have the same answer, places moved.
+fn is_same_answer(one: Part, other: Part) -> bool {
+    let (a, b) = (one.answer, other.answer);
+    a.number == b.number
+        && a.records == b.records
+        && a.warnings == b.warnings
+        && a.last == b.last
+        && one.refused_at() == other.refused_at()
+        && one.next() == other.next()
+}
+
+// Whether two parts' records are the same, places moved; a comment by its bytes and not by its place.
+fn is_same_record(one: Part, t: &[i32; 16], other: Part, u: &[i32; 16]) -> bool {
+    if one.place_of(t) != other.place_of(u) {
         return false;
     }
-    if t[at] != 1 {
-        return is_same_words(t, u, at, 15);
+    if t[0] != 1 {
+        return t[..15] == u[..15];
     }
-    if !is_same_words(t, u, at, 3) {
-        return false;
-    }
-    if !is_same_words(t, u, at + 4, 11) {
-        return false;
-    }
-    is_same_comment(one, t[at + 3], t[at + 4], other, u[at + 3], u[at + 4])
+    t[..3] == u[..3] && t[4..15] == u[4..15] && one.comment(t) == other.comment(u)
 }
 
-// Whether the first n records of the part at p and of that at q are the same.
-fn is_same_records(
-    one: &[u8],
-    p: usize,
-    t: &[i32],
-    other: &[u8],
-    q: usize,
-    u: &[i32],
-    n: usize,
-) -> bool {
-    let mut k = 0;
-    let mut at = 0;
-    while k < n {
-        if t.len() - at < 16 {
-            return false;
-        }
-        if u.len() - at < 16 {
-            return false;
-        }
-        if !is_same_record(one, p, t, other, q, u, at) {
-            return false;
-        }
-        at += 16;
-        k += 1;
-    }
-    true
+// Whether two parts' first n records are the same.
+fn is_same_records(one: Part, other: Part, n: usize) -> bool {
+    let (t, _) = one.table.as_chunks::<16>();
+    let (u, _) = other.table.as_chunks::<16>();
+    n <= t.len()
+        && n <= u.len()
+        && t.iter()
+            .zip(u)
+            .take(n)
+            .all(|(t, u)| is_same_record(one, t, other, u))
 }
 
-// The part at p of one sheet and that at q of the other, each with a table of its own.
-fn read_both(one: &[u8], p: usize, t: &mut [i32], other: &[u8], q: usize, u: &mut [i32]) -> Pair {
-    let a = read_part(one, p, t);
-    let b = read_part(other, q, u);
-    let is_same = if is_same_answer(a, p, b, q) {
-        is_same_records(one, p, t, other, q, u, a.records)
-    } else {
-        false
-    };
-    Pair {
-        is_same,
-        is_last: if a.last { true } else { b.last },
-        one_next: a.next,
-        other_next: b.next,
-    }
-}
-
-// The same with tables of so many words.
-fn read_within(
-    one: &[u8],
-    p: usize,
-    t: &mut [i32],
-    other: &[u8],
-    q: usize,
-    u: &mut [i32],
-    words: usize,
-) -> Pair
-    requires words_in_bounds { words ≤ length t.old }
-    requires words_in_bounds_2 { words ≤ length u.old }
-{
-    read_both(one, p, &mut t[..words], other, q, &mut u[..words])
-}
-
-// The same with fresh tables.
-fn read_pair(one: &[u8], p: usize, other: &[u8], q: usize, words: usize) -> Pair
-    requires { words ≤ 8192 }
-{
+// The part at p of one sheet and that at q of the other, each with a fresh table of so many words.
+fn read_pair(one: &[u8], p: usize, other: &[u8], q: usize, words: usize) -> Pair {
     let mut t = fresh_table();
     let mut u = fresh_table();
-    read_within(one, p, &mut t, other, q, &mut u, words)
+    let a = read(one, p, first_words(&mut t, words));
+    let b = read(other, q, first_words(&mut u, words));
+    Pair {
+        is_same: is_same_answer(a, b) && is_same_records(a, b, a.answer.records),
+        next: if a.answer.last || b.answer.last {
+            None
+        } else {
+            Some((a.answer.next, b.answer.next))
+        },
+    }
 }
 
 // All parts but number k.
-fn compare(one: &[u8], other: &[u8], k: usize, words: usize) -> Tally
-    requires { words ≤ 8192 }
-{
+fn compare(one: &[u8], other: &[u8], k: usize, words: usize) -> Tally {
     let mut tally = Tally { same: 0, other: 0 };
-    let mut p = 0;
-    let mut q = 0;
-    let mut i: usize = 0;
-    while i < 4097 {
+    let (mut p, mut q) = (0, 0);
+    for i in 0..4097 {
         let pair = read_pair(one, p, other, q, words);
         if i != k {
-            tally = tally.counted(pair.is_same);
+            tally.count(pair.is_same);
         }
-        if pair.is_last {
-            return tally;
-        }
-        p = pair.one_next;
-        q = pair.other_next;
-        i += 1;
+        let Some(next) = pair.next else {
+            break;
+        };
+        (p, q) = next;
     }
     tally
 }
 
-// The place of the first byte 9, or the end.
-fn tab(s: &[u8]) -> usize
-    ensures { result ≤ length s.now }
-{
-    let mut i = 0;
-    while i < s.len() {
-        if s[i] == 9 {
-            return i;
-        }
-        i += 1;
-    }
-    i
-}
-
 // Two sheets with byte 9 between them.
-pub fn run_exchange(rt: &impl Print, part: u8, sheets: &[u8], words: usize) -> Result<(), Error>
-    requires { words ≤ 8192 }
-{
-    let at = tab(sheets);
-    if at == sheets.len() {
+pub fn run_exchange(rt: &impl Print, part: u8, sheets: &[u8], words: usize) -> Result<(), Error> {
+    let Some(at) = sheets.iter().position(|b| *b == b'\t') else {
         return Ok(());
-    }
+    };
     let tally = compare(&sheets[..at], &sheets[at + 1..], digit(part), words);
     rt.write_all(b"X ")?;
-    print_number(rt, tally.same, 32)?;
-    print_number(rt, tally.other, 10)
+    print_number(rt, tally.same, b' ')?;
+    print_number(rt, tally.other, b'\n')
 }

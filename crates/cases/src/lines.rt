@@ -1,79 +1,45 @@
 // The lines of standard input.
-ghost use Rattle.std.specs.Prelude.{◌≤◌, length};
+ghost use Rattle.std.specs.Prelude.{◌≤◌, IfSome, length};
 
 use prints::read_full;
 use std::io::Read;
 
-// A byte of the input, or its end.
-#[derive(Clone, Copy)]
-enum ByteRead {
-    Got(u8),
-    End,
-}
-
-// A line that was read: how many bytes it has, or that the input had ended.
-#[derive(Clone, Copy)]
-pub struct LineRead {
-    pub bytes: usize,
-    pub is_found: bool,
-}
-
-// The next byte of the input.
-fn read_byte(reader: &mut impl Read) -> ByteRead {
+// The next byte of the input, or none at its end.
+fn read_byte(reader: &mut impl Read) -> Option<u8> {
     let mut one = [0u8; 1];
-    let n = read_full(reader, &mut one);
-    if n == 0 {
-        ByteRead::End
+    if read_full(reader, &mut one) == 0 {
+        None
     } else {
-        ByteRead::Got(one[0])
+        Some(one[0])
     }
 }
 
-// The bytes up to byte 10, or as many as the space holds. What stands after the last byte 10 is no line.
-pub fn read_line(reader: &mut impl Read, space: &mut [u8]) -> LineRead
-    ensures { result.bytes ≤ length space.new }
+// The bytes up to byte 10, or as many as the space holds: how many they are, or none at the input's end. What stands after the last byte 10 is no line.
+pub fn read_line(reader: &mut impl Read, space: &mut [u8]) -> Option<usize>
+    ensures { IfSome result (λ n. n ≤ length space.new) }
 {
-    let mut n: usize = 0;
-    while n < space.len() {
-        let next = read_byte(reader);
-        let ByteRead::Got(b) = next else {
-            return LineRead {
-                bytes: 0,
-                is_found: false,
-            };
-        };
-        if b == 10 {
-            return LineRead {
-                bytes: n,
-                is_found: true,
-            };
+    for n in 0..space.len() {
+        match read_byte(reader)? {
+            b'\n' => return Some(n),
+            b => space[n] = b,
         }
-        space[n] = b;
-        n += 1;
     }
-    LineRead {
-        bytes: n,
-        is_found: true,
-    }
+    Some(space.len())
 }
 
 // The number that a digit stands for; 0 for another byte.
 pub fn digit(b: u8) -> usize
     ensures { result ≤ 9 }
 {
-    if b < 48 {
-        return 0;
+    match b {
+        b'0'..=b'9' => (b - b'0') as usize,
+        _ => 0,
     }
-    if 57 < b {
-        return 0;
-    }
-    (b - 48) as usize
 }
 
 // The words of a table: four digits, 8192 at most.
 pub fn words_of(a: u8, b: u8, c: u8, d: u8) -> usize
     ensures { result ≤ 8192 }
 {
-    let n = digit(a) * 1000 + digit(b) * 100 + digit(c) * 10 + digit(d);
-    if n < 8192 { n } else { 8192 }
+    (digit(a) * 1000 + digit(b) * 100 + digit(c) * 10 + digit(d)).min(8192)
 }

@@ -2,8 +2,6 @@
 // Writes each line, and what its reading gives: answers and records, as the program `hours` does.
 #![tactic(auto)]
 
-ghost use Rattle.std.specs.Prelude.{◌≤◌};
-
 mod exchanges;
 mod lines;
 mod note_lines;
@@ -17,26 +15,24 @@ use std::io::{Error, Read};
 
 // S the sheet. P its parts, and the places where they begin. A both. L, for a long sheet, both without the places.
 // X, with the number of a part for the byte more, two sheets that differ in that part. N the notes.
-fn run_mode(rt: &impl Print, mode: u8, part: u8, sheet: &[u8], words: usize) -> Result<(), Error>
-    requires { words ≤ 8192 }
-{
+fn run_mode(rt: &impl Print, mode: u8, part: u8, sheet: &[u8], words: usize) -> Result<(), Error> {
     match mode {
-        83 => run_sheet(rt, sheet, words),
-        80 => {
+        b'S' => run_sheet(rt, sheet, words),
+        b'P' => {
             run_parts(rt, sheet, words)?;
             run_places(rt, sheet)
         }
-        65 => {
+        b'A' => {
             run_sheet(rt, sheet, words)?;
             run_parts(rt, sheet, words)?;
             run_places(rt, sheet)
         }
-        76 => {
+        b'L' => {
             run_sheet(rt, sheet, words)?;
             run_parts(rt, sheet, words)
         }
-        88 => run_exchange(rt, part, sheet, words),
-        78 => run_notes(rt, sheet),
+        b'X' => run_exchange(rt, part, sheet, words),
+        b'N' => run_notes(rt, sheet),
         _ => Ok(()),
     }
 }
@@ -45,26 +41,19 @@ fn run_mode(rt: &impl Print, mode: u8, part: u8, sheet: &[u8], words: usize) -> 
 fn run_line(rt: &impl Print, line: &[u8]) -> Result<(), Error> {
     rt.write_all(line)?;
     rt.write_all(b"\n")?;
-    if line.len() < 6 {
+    let [a, b, c, d, mode, part, sheet @ ..] = line else {
         return Ok(());
-    }
-    run_mode(
-        rt,
-        line[4],
-        line[5],
-        &line[6..],
-        words_of(line[0], line[1], line[2], line[3]),
-    )
+    };
+    run_mode(rt, *mode, *part, sheet, words_of(*a, *b, *c, *d))
 }
 
 // Reads a line into this space and runs it; false at the end of the input.
 fn run_next(rt: &impl Print, reader: &mut impl Read, space: &mut [u8]) -> Result<bool, Error> {
-    let read = read_line(reader, space);
-    let n = read.bytes;
-    if read.is_found {
-        run_line(rt, &space[..n])?;
-    }
-    Ok(read.is_found)
+    let Some(n) = read_line(reader, space) else {
+        return Ok(false);
+    };
+    run_line(rt, &space[..n])?;
+    Ok(true)
 }
 
 // The same with a space that a line fits into.

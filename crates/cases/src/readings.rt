@@ -1,5 +1,5 @@
 // A sheet's reading, and its parts'.
-ghost use Rattle.std.specs.Prelude.{◌≡◌, ◌≤◌, length};
+ghost use Rattle.std.specs.Prelude.{◌≡◌, length};
 
 use calls::{read_part, read_sheet};
 use prints::{print_answer, print_number, print_records};
@@ -9,26 +9,22 @@ use std::io::Error;
 // What stands in a table before a reading.
 const MARK: i32 = 7777;
 
-// A table before a reading. (The `ensures` gives the length, which lending a part of it needs.)
+// A table before a reading.
 pub fn fresh_table() -> [i32; 8192]
     ensures { 8192 ≡ length result }
 {
     [MARK; 8192]
 }
 
+// The first words of a table: so many, or all that it has.
+pub fn first_words(table: &mut [i32], words: usize) -> &mut [i32] {
+    let n = words.min(table.len());
+    &mut table[..n]
+}
+
 // Whether the words of a table after its first n records are as they were.
 fn is_kept(table: &[i32], n: usize) -> bool {
-    let mut i = table.len();
-    while 0 < i {
-        i -= 1;
-        if i / 16 < n {
-            return true;
-        }
-        if table[i] != MARK {
-            return false;
-        }
-    }
-    true
+    table.chunks(16).skip(n).flatten().all(|w| *w == MARK)
 }
 
 // The records of an answer. A word after them that was changed gives a line that no case expects.
@@ -41,19 +37,15 @@ fn print_table(rt: &impl Print, table: &[i32], n: usize) -> Result<(), Error> {
 }
 
 // The sheet, read with a table of so many words.
-fn show_sheet(rt: &impl Print, s: &[u8], table: &mut [i32], words: usize) -> Result<(), Error>
-    requires { words ≤ length table.old }
-{
-    let lent = &mut table[..words];
+fn show_sheet(rt: &impl Print, s: &[u8], table: &mut [i32], words: usize) -> Result<(), Error> {
+    let lent = first_words(table, words);
     let a = read_sheet(s, lent);
-    print_answer(rt, a.number, a.place, a.records, a.warnings, 10)?;
+    print_answer(rt, a.number, a.place, a.records, a.warnings, b'\n')?;
     print_table(rt, lent, a.records)
 }
 
 // The sheet.
-pub fn run_sheet(rt: &impl Print, s: &[u8], words: usize) -> Result<(), Error>
-    requires { words ≤ 8192 }
-{
+pub fn run_sheet(rt: &impl Print, s: &[u8], words: usize) -> Result<(), Error> {
     let mut table = fresh_table();
     show_sheet(rt, s, &mut table, words)
 }
@@ -65,39 +57,31 @@ fn show_part(
     place: usize,
     table: &mut [i32],
     words: usize,
-) -> Result<PartAnswer, Error>
-    requires { words ≤ length table.old }
-{
-    let lent = &mut table[..words];
+) -> Result<PartAnswer, Error> {
+    let lent = first_words(table, words);
     let a = read_part(s, place, lent);
-    print_answer(rt, a.number, a.place, a.records, a.warnings, 32)?;
-    print_number(rt, a.next as u64, 32)?;
-    print_number(rt, if a.last { 1 } else { 0 }, 10)?;
+    print_answer(rt, a.number, a.place, a.records, a.warnings, b' ')?;
+    print_number(rt, a.next as u64, b' ')?;
+    print_number(rt, u64::from(a.last), b'\n')?;
     print_table(rt, lent, a.records)?;
     Ok(a)
 }
 
 // A part.
-fn run_part(rt: &impl Print, s: &[u8], place: usize, words: usize) -> Result<PartAnswer, Error>
-    requires { words ≤ 8192 }
-{
+fn run_part(rt: &impl Print, s: &[u8], place: usize, words: usize) -> Result<PartAnswer, Error> {
     let mut table = fresh_table();
     show_part(rt, s, place, &mut table, words)
 }
 
 // Each part, from place 0 on by `next`. A sheet of 4,096 bytes has no more than 4,097.
-pub fn run_parts(rt: &impl Print, s: &[u8], words: usize) -> Result<(), Error>
-    requires { words ≤ 8192 }
-{
-    let mut place: usize = 0;
-    let mut k: usize = 0;
-    while k < 4097 {
+pub fn run_parts(rt: &impl Print, s: &[u8], words: usize) -> Result<(), Error> {
+    let mut place = 0;
+    for _ in 0..4097 {
         let a = run_part(rt, s, place, words)?;
         if a.last {
-            return Ok(());
+            break;
         }
         place = a.next;
-        k += 1;
     }
     Ok(())
 }
@@ -115,13 +99,9 @@ fn try_place(rt: &impl Print, s: &[u8], place: usize) -> Result<(), Error> {
 // The places where a part begins: all from 0 to one after the sheet's end are tried, and the largest.
 pub fn run_places(rt: &impl Print, s: &[u8]) -> Result<(), Error> {
     rt.write_all(b"B")?;
-    let mut place = 0;
-    while place < s.len() {
+    for place in 0..s.len() + 2 {
         try_place(rt, s, place)?;
-        place += 1;
     }
-    try_place(rt, s, place)?;
-    try_place(rt, s, std::num::wrapping_add_usize(place, 1))?;
     try_place(rt, s, usize::MAX)?;
     rt.write_all(b"\n")
 }

@@ -1,12 +1,13 @@
 -- What good dates have: names in range.
-use Rattle.std.specs.Prelude.{if◌then◌else◌}
-use Prim.Native.Nat.{ℕ, ◌≤◌, ◌<◌, ◌^◌}
+use Prim.Native.Nat.{ℕ, zero, suc, ◌-◌, ◌≤◌, ◌<◌, ◌^◌}
 use native.Mathlib.Omega.{arith}
 use mathlib.Core.Bool.{Bool, true, false, ◌||◌, true≢false}
 use mathlib.Core.Path.{◌≡◌, refl, sym, ap, ◌∙◌}
 use borrow.Author.Tests.{eqb-true, eq-eqb, ne_eqb}
 use lib.Dec.{eqb}
 use lib.IntN.{ℤ, pos, negsuc, nat_abs}
+use mathlib.Core.List.{[]}
+use lib.ListN.{get_or}
 use lib.Signed.{mag}
 use mir.Syntax.{w16}
 use mir.Val.{of_z, to_z}
@@ -15,12 +16,34 @@ use Rattle.records.specs.declared.MonthSpan.{MonthSpan}
 use Rattle.records.specs.declared.Day.TheVariants.{Fixed, Weekday}
 use Rattle.records.specs.declared.DateOffset.{DateOffset}
 use Rattle.records.specs.declared.DateSpan.{DateSpan}
-use Rattle.sheet_texts.specs.Names.{written, is_in}
+use Rattle.sheet_texts.specs.Names.{written, is_in, letters_in}
+use Rattle.date_texts.specs.declared.TheConstants.{MONTHS}
 use Rattle.sheet_texts.specs.Dates as texts
 use Rattle.sheet_texts.proofs.Tests.{both}
 use Rattle.sheet_texts.specs.Numbers.{same_number}
 use Rattle.sheet_texts.proofs.Named.{same_test, month_range_lem, weekday_range}
 use Rattle.records.proofs.Laws.{half_fits}
+
+-- the table's names are those that are written
+month_at : (k : ℕ) → k < 12 → get_or MONTHS k [] ≡ letters_in written (month, suc k)
+unfolding letters_in written
+month_at zero h = refl
+month_at (suc zero) h = refl
+month_at (suc (suc zero)) h = refl
+month_at (suc (suc (suc zero))) h = refl
+month_at (suc (suc (suc (suc zero)))) h = refl
+month_at (suc (suc (suc (suc (suc zero))))) h = refl
+month_at (suc (suc (suc (suc (suc (suc zero)))))) h = refl
+month_at (suc (suc (suc (suc (suc (suc (suc zero))))))) h = refl
+month_at (suc (suc (suc (suc (suc (suc (suc (suc zero)))))))) h = refl
+month_at (suc (suc (suc (suc (suc (suc (suc (suc (suc zero))))))))) h = refl
+month_at (suc (suc (suc (suc (suc (suc (suc (suc (suc (suc zero)))))))))) h = refl
+month_at (suc (suc (suc (suc (suc (suc (suc (suc (suc (suc (suc zero))))))))))) h = refl
+month_at (suc (suc (suc (suc (suc (suc (suc (suc (suc (suc (suc (suc k)))))))))))) h = absurd (omega arith)
+
+pub month_name : (n : ℕ) → 1 ≤ n → n ≤ 12 → get_or MONTHS (n - 1) [] ≡ letters_in written (month, n)
+month_name zero g h = absurd (omega arith)
+month_name (suc k) g h = let e : suc k - 1 ≡ k = omega arith in rw e (month_at k (omega arith))
 
 pub months_range : (r : MonthSpan) → texts.good_months r ≡ true → ((1 ≤ r.first) × (r.first ≤ 12)) × ((1 ≤ r.last) × (r.last ≤ 12))
 unfolding texts.good_months

@@ -1,5 +1,5 @@
 -- A bare end day is the first day of the calendar with that number that is not before the start.
-use Rattle.std.specs.Prelude.{if◌then◌else◌}
+use Rattle.std.specs.Prelude.{Option, Some, None, if◌then◌else◌}
 use Prim.Native.Nat.{ℕ, suc, ◌+◌, ◌*◌, ◌≤◌, ◌<◌}
 use mathlib.Core.Bool.{Bool, true, false, true≢false}
 use mathlib.Core.Path.{◌≡◌, refl, sym, ◌∙◌}
@@ -13,8 +13,6 @@ use Rattle.records.specs.declared.Day.TheVariants.{Fixed}
 use Rattle.dates.specs.BareDays.{Ymd, ymd, Before, by_year, by_month, by_day, Fits, months, First, dated, yearless, EndsOn}
 use Rattle.dates.specs.BareEnds.{date_of, next_year, year_month, next_month, month_from, first_with, bare_end}
 use Rattle.dates.specs.Meanings.{good_years, year_of}
-use Rattle.dates.specs.declared.Year.{Year}
-use Rattle.dates.specs.declared.Year.TheVariants.{Absent, Given}
 
 -- a day of the calendar that is not before s is not in a month before
 not_earlier : (x s : Ymd) → s.month ≤ 12 → 1 ≤ x.month → (Before x s → ⊥) → months s ≤ months x
@@ -172,6 +170,6 @@ module _ (y m d e : ℕ) where
         go false n f = (on false n, ended 0 (λ i. rw (calendar.as_leap y i h)) f, first f)
 
 -- the same for a year that may be left out
-pub ends_on : (y : Year) (m d e : ℕ) → good_years y ≡ true → 1 ≤ m → m ≤ 12 → 1 ≤ e → e ≤ 31 → EndsOn y m d e (bare_end (year_month (year_of y) m) d e)
-ends_on Absent m d e g a b one last = λ y h. without_year y m d e a b one last h
-ends_on (Given y) m d e g a b one last = with_year y m d e a b one last (omega (arith, within_range 1900 9999 y g))
+pub ends_on : (y : Option ℕ) (m d e : ℕ) → good_years y ≡ true → 1 ≤ m → m ≤ 12 → 1 ≤ e → e ≤ 31 → EndsOn y m d e (bare_end (year_month (year_of y) m) d e)
+ends_on None m d e g a b one last = λ y h. without_year y m d e a b one last h
+ends_on (Some y) m d e g a b one last = with_year y m d e a b one last (omega (arith, within_range 1900 9999 y g))

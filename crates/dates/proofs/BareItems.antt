@@ -1,5 +1,5 @@
 -- A bare end day that is read ends its date item on the first day of the calendar with that number, not before the start.
-use Rattle.std.specs.Prelude.{if◌then◌else◌}
+use Rattle.std.specs.Prelude.{Option, Ok, Err, if◌then◌else◌}
 use Prim.Native.Nat.{ℕ, ◌≤◌}
 use mathlib.Core.Bool.{Bool, true, false, not, and-eq-true_iff}
 use mathlib.Core.List.{List}
@@ -20,14 +20,13 @@ use Rattle.records.specs.declared.Day.TheVariants.{Fixed, Weekday, Easter}
 use Rattle.records.specs.Items.{judged}
 use Rattle.records.specs.declared.DateSpan.{DateSpan}
 use Rattle.records.specs.declared.Item.TheVariants.{Dates}
-use Rattle.records.specs.declared.Meant.TheVariants.{Is, Refused}
+use Rattle.names.specs.declared.refusals.Reason.TheVariants.{Range}
 use Rattle.days.specs.Offsets.{good_days}
 use Rattle.dates.specs.BareDays.{BareItem, BareDays}
 use Rattle.dates.specs.Dates.{Spelt, optional_year, nth, weekday_of, day_of, day_after, raw_date, date}
 use Rattle.dates.specs.BareEnds.{date_of, year_month, bare_end}
 use Rattle.dates.specs.Meanings.{good_dates, year_of, offset_of, odd_of, bare_odd, date_meaning}
 use Rattle.dates.specs.MonthDays.{date_item_after, month_day_after, month_day_item}
-use Rattle.dates.specs.declared.Year.{Year}
 use Rattle.dates.specs.declared.RawDate.{RawDate}
 use Rattle.dates.specs.declared.RawEnd.TheVariants.{Bare}
 use Rattle.dates.specs.declared.RawDates.{RawDates}
@@ -70,7 +69,7 @@ unfolding date
 date_in_year = then_finds (any optional_year) (λ y _. then_finds spelled_month (λ w h. then_finds (day_after_lem w.0 h) (λ d k. pure_finds (raw_date y w.1 d) k)))
 
 -- where a date stands, the item is a date item
-date_item : (s : List ℕ) (p : ℕ) (y : Year) (odd : Bool) (day : Spelt) (j : ℕ) → date s p ≡ got (raw_date y odd day) j → month_day_item s p ≡ date_item_after p y odd day s j
+date_item : (s : List ℕ) (p : ℕ) (y : Option ℕ) (odd : Bool) (day : Spelt) (j : ℕ) → date s p ≡ got (raw_date y odd day) j → month_day_item s p ≡ date_item_after p y odd day s j
 unfolding date month_day_item month_day_after
 date_item s p y odd day j h =
     both s p _ _ _ (optional_year s p) (λ z i e. both s i _ _ _ (spelled s i) (λ w k e. both s k _ _ _ (day_after w.0 s k) (λ d l e. same z w.1 d l e) e) e) h
@@ -78,7 +77,7 @@ date_item s p y odd day j h =
     pairs : (a b : Spelt) → a.0 ≡ b.0 → a.1 ≡ b.1 → a ≡ b
     pairs (x, v) (z, w) f g = rw (f, g)
 
-    same : (z : Year) (o : Bool) (d : Spelt) (l : ℕ) → ◌≡◌ {A = Read RawDate} (got (raw_date z o d) l) (got (raw_date y odd day) j) → date_item_after p z o d s l ≡ date_item_after p y odd day s j
+    same : (z : Option ℕ) (o : Bool) (d : Spelt) (l : ℕ) → ◌≡◌ {A = Read RawDate} (got (raw_date z o d) l) (got (raw_date y odd day) j) → date_item_after p z o d s l ≡ date_item_after p y odd day s j
     same z o d l e =
         let r : raw_date z o d ≡ raw_date y odd day = cc in
         let k : l ≡ j = cc in
@@ -104,7 +103,7 @@ bare_days s p y m d e b x q h = go (good_dates raw) refl (rw (date_item s p y b.
           odd_end = bare_odd b.offset_end;
         }
 
-    go : (t : Bool) → good_dates raw ≡ t → judged p (if not t then Refused 4 else Is (Dates span)) s b.next ≡ got x q → BareItem y m d e x
+    go : (t : Bool) → good_dates raw ≡ t → judged p (if not t then Err Range else Ok (Dates span)) s b.next ≡ got x q → BareItem y m d e x
     go true g k =
         let f = dates_good raw g in
         let n = found_is date_in_year b.start in

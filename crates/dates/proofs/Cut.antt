@@ -1,5 +1,5 @@
 -- Years, weeks and dates depend on nothing before their place and nothing from a `;` outside quotes on: the lemmas put together as the definitions are.
-use Rattle.std.specs.Prelude.{if◌then◌else◌}
+use Rattle.std.specs.Prelude.{Option, if◌then◌else◌}
 use Prim.Native.Nat.{ℕ, ◌+◌}
 use mathlib.Core.List.{List}
 use mathlib.Core.Bool.{Bool, true, false, not}
@@ -26,7 +26,6 @@ use Rattle.dates.specs.Dates.{Spelt, optional_year, back_nth, front_nth, nth, we
 use Rattle.dates.specs.Ends.{until_date, bare_day, until, end_shape, dates_after}
 use Rattle.dates.specs.Meanings.{date_meaning, month_meaning}
 use Rattle.dates.specs.MonthDays.{last_month, month_after, month_item_after, date_item_after, month_day_after, month_day_item}
-use Rattle.dates.specs.declared.Year.{Year}
 use Rattle.dates.specs.declared.RawRange.{RawRange}
 use Rattle.dates.specs.declared.RawDate.{RawDate}
 use Rattle.dates.proofs.Meant.{date_refuses, month_refuses}
@@ -115,7 +114,7 @@ module _ {u : List ℕ} where
   unfolding last_month
   last_month_alike first = maybe_local (then_local (byte_local 45 refl refl) (λ _. free (named_local month))) (first, false)
 
-  pub month_after_alike : (y : Year) (first : ℕ × Bool) → Alike u 0 (month_after y first)
+  pub month_after_alike : (y : Option ℕ) (first : ℕ × Bool) → Alike u 0 (month_after y first)
   unfolding month_after
   month_after_alike y first = then_local (last_month_alike first.0) (λ last. pure_local _)
 
@@ -139,15 +138,15 @@ week_item_alike = item_alike week_shape_alike week_meaning week_refuses
 
 -- the items of a month_day_lem list, p being where each begins
 module _ {u : List ℕ} where
-  pub month_item_after_alike : (p : ℕ) (y : Year) (w : Word × Bool) → LocalFrom Second p Stop keep u false false 0 (month_item_after (length u + p) y w) (month_item_after p y w)
+  pub month_item_after_alike : (p : ℕ) (y : Option ℕ) (w : Word × Bool) → LocalFrom Second p Stop keep u false false 0 (month_item_after (length u + p) y w) (month_item_after p y w)
   unfolding month_item_after
   month_item_after_alike p y w = then_local (only_local (eqb w.0.0 month)) (λ _. meant_alike (month_after_alike y (w.0.1, w.1)) month_meaning month_refuses p)
 
-  pub date_item_after_alike : (p : ℕ) (y : Year) (odd : Bool) (d : Spelt) → LocalFrom Second p Stop keep u false false 0 (date_item_after (length u + p) y odd d) (date_item_after p y odd d)
+  pub date_item_after_alike : (p : ℕ) (y : Option ℕ) (odd : Bool) (d : Spelt) → LocalFrom Second p Stop keep u false false 0 (date_item_after (length u + p) y odd d) (date_item_after p y odd d)
   unfolding date_item_after
   date_item_after_alike p y odd d = meant_alike (dates_after_alike (raw_date y odd d)) date_meaning date_refuses p
 
-  pub month_day_after_alike : (p : ℕ) (y : Year) (w : Word × Bool) → LocalFrom Second p Stop keep u false false 0 (month_day_after (length u + p) y w) (month_day_after p y w)
+  pub month_day_after_alike : (p : ℕ) (y : Option ℕ) (w : Word × Bool) → LocalFrom Second p Stop keep u false false 0 (month_day_after (length u + p) y w) (month_day_after p y w)
   unfolding month_day_after
   month_day_after_alike p y w = branch_local {k = 0} {l = 0} (day_after_alike w.0) (date_item_after_alike p y w.1) (month_item_after_alike p y w)
 

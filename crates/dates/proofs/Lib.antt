@@ -1,4 +1,3 @@
-pub mod Laws
 pub mod Good
 pub mod Meant
 pub mod Cut

@@ -1,5 +1,5 @@
 -- What is proved of a bare end day, in the user's words: it is a day of the calendar with that number, not before the start, and no such day lies between.
-use Rattle.std.specs.Prelude.{ℕ, ◌+◌, ◌*◌, ◌≤◌, ◌<◌, Bool, true, false, List, ◌≡◌}
+use Rattle.std.specs.Prelude.{ℕ, ◌+◌, ◌*◌, ◌≤◌, ◌<◌, Bool, true, false, List, ◌≡◌, Option, Some, None}
 use Rattle.names.specs.Read.{got}
 use Rattle.calendar.specs.Calendar.{leap, is_day}
 use Rattle.records.specs.declared.Day.TheVariants.{Fixed}
@@ -13,8 +13,6 @@ use Rattle.dates.specs.Ends.{dates_after}
 use Rattle.dates.specs.BareEnds.{date_of}
 use Rattle.dates.specs.Meanings.{year_of}
 use Rattle.dates.specs.MonthDays.{month_day_item}
-use Rattle.dates.specs.declared.Year.{Year}
-use Rattle.dates.specs.declared.Year.TheVariants.{Absent, Given}
 use Rattle.dates.specs.declared.RawEnd.TheVariants.{Bare}
 
 -- year, month and day, as numbers
@@ -56,12 +54,12 @@ abbrev pub yearless : Ymd → Date
 yearless t = date_of 0 (Fixed t.month t.day)
 
 -- the end of a bare day e after day d of month m: with a year it is the first such day; without, what every leap year gives, its year left out
-abbrev pub EndsOn : Year → ℕ → ℕ → ℕ → Date → Type 0
-EndsOn (Given y) m d e end = (t : Ymd) × (end ≡ dated t) × First (ymd y m d) e t
-EndsOn Absent m d e end = (y : ℕ) → leap y ≡ true → (t : Ymd) × (end ≡ yearless t) × First (ymd y m d) e t
+abbrev pub EndsOn : Option ℕ → ℕ → ℕ → ℕ → Date → Type 0
+EndsOn (Some y) m d e end = (t : Ymd) × (end ≡ dated t) × First (ymd y m d) e t
+EndsOn None m d e end = (y : ℕ) → leap y ≡ true → (t : Ymd) × (end ≡ yearless t) × First (ymd y m d) e t
 
 -- what stands at place p of the text s: a fixed date, with or without a year, and after it `-` and a bare day e, both with offset or not
-pub record BareRead (s : List ℕ) (p : ℕ) (y : Year) (m d e : ℕ) : Type 0 where
+pub record BareRead (s : List ℕ) (p : ℕ) (y : Option ℕ) (m d e : ℕ) : Type 0 where
   pub after : ℕ
   pub next : ℕ
   pub offset : RawOffset
@@ -71,7 +69,7 @@ pub record BareRead (s : List ℕ) (p : ℕ) (y : Year) (m d e : ℕ) : Type 0 w
   pub rest : dates_after (raw_date y odd (Fixed m d, false)) s after ≡ got (record { date = raw_date y odd (Fixed m d, false); offset = offset; end = Bare e offset_end }) next
 
 -- the item that such a text is read as
-pub record BareItem (y : Year) (m d e : ℕ) (x : Item) : Type 0 where
+pub record BareItem (y : Option ℕ) (m d e : ℕ) (x : Item) : Type 0 where
   pub span : DateSpan
   pub item : x ≡ Dates span
   pub start : span.start ≡ date_of (year_of y) (Fixed m d)
@@ -79,4 +77,4 @@ pub record BareItem (y : Year) (m d e : ℕ) (x : Item) : Type 0 where
 
 -- for every text and place: the item that is read there, where it is not refused, ends on that day
 abbrev pub BareDays : Type 0
-BareDays = (s : List ℕ) (p : ℕ) (y : Year) (m d e : ℕ) → BareRead s p y m d e → (x : Item) (q : ℕ) → month_day_item s p ≡ got x q → BareItem y m d e x
+BareDays = (s : List ℕ) (p : ℕ) (y : Option ℕ) (m d e : ℕ) → BareRead s p y m d e → (x : Item) (q : ℕ) → month_day_item s p ≡ got x q → BareItem y m d e x

@@ -1,5 +1,5 @@
 -- Date: [`YYYY` blank] then `easter`, `Mon` blank `D`, or `Mon` blank `Wd[n]` or `Wd[-n]` (docs/RULES.md, 2).
-use Rattle.std.specs.Prelude.{ℕ, Bool, true, false, eqb, ℤ, if◌then◌else◌}
+use Rattle.std.specs.Prelude.{ℕ, Bool, true, false, eqb, ℤ, Option, Some, None, if◌then◌else◌}
 use Rattle.names.specs.Read.{Reader, nothing, pure, ◌>>=◌, ◌>>◌, ◌or◌, maybe}
 use Rattle.names.specs.Texts.{sign, blank}
 use Rattle.names.specs.Numbers.{year, short, ordinal}
@@ -8,13 +8,11 @@ use Rattle.names.specs.Spellings.{named, spelled}
 use Rattle.records.specs.Items.{signed}
 use Rattle.records.specs.declared.Day.{Day}
 use Rattle.records.specs.declared.Day.TheVariants.{Fixed, Weekday, Easter}
-use Rattle.dates.specs.declared.Year.{Year}
-use Rattle.dates.specs.declared.Year.TheVariants.{Absent, Given}
 use Rattle.dates.specs.declared.RawDate.{RawDate}
 
 -- [`YYYY` blank]
-unfoldable pub optional_year : Reader Year
-optional_year = maybe (do y ← year; blank; pure (Given y)) Absent
+unfoldable pub optional_year : Reader (Option ℕ)
+optional_year = maybe (do y ← year; blank; pure (Some y)) None
 
 -- `-n`
 unfoldable pub back_nth : Reader ℤ
@@ -60,7 +58,7 @@ day_after w =
     else nothing
 
 -- a date as it is read, and whether its month or `easter` calls for a warning
-abbrev pub raw_date : Year → Bool → Spelt → RawDate
+abbrev pub raw_date : Option ℕ → Bool → Spelt → RawDate
 raw_date y odd d = record { year = y; day = d.0; odd_name = odd; odd_weekday = d.1 }
 
 -- a date

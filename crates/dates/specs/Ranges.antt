@@ -1,7 +1,7 @@
 -- Years and weeks: first, last and step (docs/RULES.md, 4).
 use Rattle.std.specs.Prelude.{ℕ, ◌-◌, Bool, ◌&&◌, ltb, if◌then◌else◌}
 use Rattle.names.specs.Tests.{within}
-use Rattle.names.specs.Read.{Reader, pure, ◌>>=◌, ◌>>◌, maybe}
+use Rattle.names.specs.Read.{Reader, pure, ◌>>=◌, ◌>>◌, ◌or◌, maybe}
 use Rattle.names.specs.Texts.{sign}
 use Rattle.names.specs.Numbers.{count}
 use Rattle.records.specs.Items.{good_count}
@@ -22,6 +22,10 @@ until_last m first = do
   last ← m
   step ← stepped
   pure (raw_range first last step)
+
+-- the same, or the first alone
+abbrev pub range_after : Reader ℕ → ℕ → Reader RawRange
+range_after m first = until_last m first or pure (raw_range first first 1)
 
 -- numbers in range: first and last from lo to hi
 unfoldable pub good_range : ℕ → ℕ → RawRange → Bool

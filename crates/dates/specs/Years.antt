@@ -1,15 +1,13 @@
 -- Year: `YYYY`, `YYYY+`, `YYYY-YYYY`, `YYYY-YYYY/N` (docs/RULES.md, 2).
-use Rattle.std.specs.Prelude.{ℕ, Bool, not, ltb, if◌then◌else◌}
+use Rattle.std.specs.Prelude.{ℕ, Bool, not, ltb, Ok, Err, if◌then◌else◌}
 use Rattle.names.specs.Tests.{within}
 use Rattle.names.specs.Read.{Reader, pure, ◌>>=◌, ◌>>◌, ◌or◌}
 use Rattle.names.specs.Texts.{sign}
 use Rattle.names.specs.Numbers.{year}
-use Rattle.names.specs.Refusals.{range, years_inverted}
-use Rattle.records.specs.Items.{item, meant}
+use Rattle.names.specs.declared.refusals.Reason.TheVariants.{Range, YearsInverted}
+use Rattle.records.specs.Items.{Meant, item, meant}
 use Rattle.records.specs.declared.Item.{Item}
 use Rattle.records.specs.declared.Item.TheVariants.{Years}
-use Rattle.records.specs.declared.Meant.{Meant}
-use Rattle.records.specs.declared.Meant.TheVariants.{Is, Refused}
 use Rattle.dates.specs.Ranges.{raw_range, until_last, good_range, step_of}
 use Rattle.dates.specs.declared.RawRange.{RawRange}
 
@@ -30,9 +28,9 @@ good_year = within 1900 9999
 -- the meaning: years are 1900 to 9999; first above last is refused, a step above last minus first becomes 1
 unfoldable pub year_meaning : RawRange → Meant
 year_meaning r =
-    if not (good_range 1900 9999 r) then Refused range
-    else if ltb r.last r.first then Refused years_inverted
-    else Is (Years (record { first = r.first; last = r.last; step = step_of r.first r.last r.step }))
+    if not (good_range 1900 9999 r) then Err Range
+    else if ltb r.last r.first then Err YearsInverted
+    else Ok (Years (record { first = r.first; last = r.last; step = step_of r.first r.last r.step }))
 
 -- an item of a year list
 unfoldable pub year_item : Reader Item

@@ -1,84 +1,63 @@
 // Date item: date[offset], then nothing, `+`, or `-` and an end, which is a date or a bare `D`, with [offset].
 ghost use Rattle.std.specs.Prelude.{◌≡◌};
+ghost use Rattle.names.specs.Seen.{seen, seen_then};
 ghost use Rattle.dates.specs.Ends as ends;
-ghost use Rattle.dates.specs.Seen.{seen_end, then_end, then_dates};
 
 use crate::dates::date;
-use crate::{DateRead, DatesThen, EndRead, EndThen, RawDate, RawDates, RawEnd};
+use crate::{RawDate, RawDates, RawEnd};
 use days::offset;
-use names::{Cursor, Num, Step};
+use names::Cursor;
+
+// After a minus: a date, with [offset].
+#[tactic(auto, unfolding(crate::specs::Ends::until_date))]
+fn until_date(s: &[u8], c: Cursor) -> Option<(RawEnd, Cursor)>
+    ensures { ends.until_date s.now c.at ≡ seen (λ a. a) result }
+{
+    let (last, d) = date(s, c)?;
+    let (o, e) = offset(s, d);
+    Some((RawEnd::Until(last, o), e))
+}
 
 // After a minus: a bare `D`, with [offset].
-fn bare_day(s: &[u8], c: Cursor) -> EndRead
-    ensures { ends.bare_day s.now c.at ≡ seen_end result }
+#[tactic(auto, unfolding(crate::specs::Ends::bare_day))]
+fn bare_day(s: &[u8], c: Cursor) -> Option<(RawEnd, Cursor)>
+    ensures { ends.bare_day s.now c.at ≡ seen (λ a. a) result }
 {
-    let number = c.short(s);
-    let Num::Got(n, d) = number else {
-        return EndRead::Missing;
-    };
-    let then = offset(s, d);
-    let o = then.offset;
-    let next = then.next;
-    EndRead::Got(RawEnd::Bare(n as u8, o), next)
+    let (n, d) = c.short(s)?;
+    let (o, e) = offset(s, d);
+    Some((RawEnd::Bare(n as u8, o), e))
 }
 
 // After a minus: a date or a bare `D`, with [offset].
-fn until(s: &[u8], c: Cursor) -> EndRead
-    ensures { ends.until s.now c.at ≡ seen_end result }
+#[tactic(auto, unfolding(crate::specs::Ends::until))]
+fn until(s: &[u8], c: Cursor) -> Option<(RawEnd, Cursor)>
+    ensures { ends.until s.now c.at ≡ seen (λ a. a) result }
 {
-    let first = date(s, c);
-    match first {
-        DateRead::Got(e, d) => {
-            let then = offset(s, d);
-            let o = then.offset;
-            let next = then.next;
-            EndRead::Got(RawEnd::Until(e, o), next)
-        }
-        DateRead::Missing => bare_day(s, c),
-    }
+    until_date(s, c).or_else(|| bare_day(s, c))
 }
 
 // `+`, or `-` and an end, or nothing.
-fn end_shape(s: &[u8], c: Cursor) -> EndThen
-    ensures { ends.end_shape s.now c.at ≡ then_end result }
+#[tactic(auto, unfolding(crate::specs::Ends::end_shape))]
+fn end_shape(s: &[u8], c: Cursor) -> (RawEnd, Cursor)
+    ensures { ends.end_shape s.now c.at ≡ seen_then (λ a. a) result }
 {
-    let nothing = EndThen {
-        end: RawEnd::Nothing,
-        next: c,
-    };
-    let plus = c.sign(s, b'+');
-    if let Step::Got(d) = plus {
-        return EndThen {
-            end: RawEnd::Plus,
-            next: d,
-        };
+    if let Some(d) = c.sign(s, b'+') {
+        return (RawEnd::Plus, d);
     }
-    let minus = c.sign(s, b'-');
-    let Step::Got(e) = minus else {
-        return nothing;
-    };
-    let last = until(s, e);
-    match last {
-        EndRead::Got(end, f) => EndThen { end, next: f },
-        EndRead::Missing => nothing,
+    if let Some(d) = c.sign(s, b'-')
+        && let Some(end) = until(s, d)
+    {
+        return end;
     }
+    (RawEnd::Nothing, c)
 }
 
 // The shape of a date item after its date.
-pub fn dates_after(s: &[u8], c: Cursor, first: RawDate) -> DatesThen
-    ensures { ends.dates_after first s.now c.at ≡ then_dates result }
+#[tactic(auto, unfolding(crate::specs::Ends::dates_after))]
+pub fn dates_after(s: &[u8], c: Cursor, date: RawDate) -> (RawDates, Cursor)
+    ensures { ends.dates_after date s.now c.at ≡ seen_then (λ a. a) result }
 {
-    let then = offset(s, c);
-    let o = then.offset;
-    let rest = end_shape(s, then.next);
-    let end = rest.end;
-    let next = rest.next;
-    DatesThen {
-        dates: RawDates {
-            date: first,
-            offset: o,
-            end,
-        },
-        next,
-    }
+    let (offset, d) = offset(s, c);
+    let (end, e) = end_shape(s, d);
+    (RawDates { date, offset, end }, e)
 }

@@ -4,37 +4,35 @@ ghost use Rattle.days.specs.Offsets.{good_days};
 ghost use Rattle.dates.specs.Meanings as meanings;
 
 use crate::bare_ends::{bare_end, last_day};
-use crate::{RawDate, RawDates, RawEnd, RawMonths, Year, YearMonth};
+use crate::{RawDate, RawDates, RawEnd, RawMonths, YearMonth};
 use days::{OUT_OF_RANGE, RawOffset};
-use names::{EASTER_DAY, RANGE, within};
+use names::{Reason, within};
 use records::{Date, DateOffset, DateSpan, Day, Item, Meant, MonthSpan, Odd};
 
-// A year that is there is in range.
-fn good_years(y: Year) -> bool
-    ensures { result ≡ meanings.good_years y }
-{
-    match y {
-        Year::Absent => true,
-        Year::Given(n) => within(1900, 9999, n as u32),
-    }
+// Where a date span starts or ends: a date, its offset, and which of their names call for a warning.
+#[derive(Clone, Copy)]
+struct SpanEnd {
+    date: Date,
+    offset: DateOffset,
+    odd: Odd,
 }
 
-// From lo to hi.
-fn between(lo: i16, hi: i16, n: i16) -> bool
-    ensures { result ≡ meanings.between lo hi n }
+// A year that is there is in range.
+fn good_years(year: Option<u16>) -> bool
+    ensures { result ≡ meanings.good_years year }
 {
-    if lo <= n { n <= hi } else { false }
+    match year {
+        Some(n) => within(1900, 9999, n as u32),
+        None => true,
+    }
 }
 
 // n from 1 to 5, from the month's start or from its end.
+#[tactic(auto, unfolding(crate::specs::Meanings::good_nth))]
 fn good_nth(n: i16) -> bool
     ensures { result ≡ meanings.good_nth n }
 {
-    if between(1, 5, n) {
-        true
-    } else {
-        between(-5, -1, n)
-    }
+    (1..=5).contains(&n) || (-5..=-1).contains(&n)
 }
 
 // D from 1 to 31, n from 1 to 5.
@@ -52,13 +50,7 @@ fn good_day(d: Day) -> bool
 fn good_date(d: RawDate) -> bool
     ensures { result ≡ meanings.good_date d }
 {
-    let year = d.year;
-    let day = d.day;
-    if good_years(year) {
-        good_day(day)
-    } else {
-        false
-    }
+    good_years(d.year) && good_day(d.day)
 }
 
 // N from 0 to 32,767, either way.
@@ -73,16 +65,9 @@ fn good_end(e: RawEnd) -> bool
     ensures { result ≡ meanings.good_end e }
 {
     match e {
-        RawEnd::Nothing => true,
-        RawEnd::Plus => true,
-        RawEnd::Until(d, o) => { if good_date(d) { good_offset(o) } else { false } }
-        RawEnd::Bare(n, o) => {
-            if within(1, 31, n as u32) {
-                good_offset(o)
-            } else {
-                false
-            }
-        }
+        RawEnd::Nothing | RawEnd::Plus => true,
+        RawEnd::Until(d, o) => good_date(d) && good_offset(o),
+        RawEnd::Bare(n, o) => within(1, 31, n as u32) && good_offset(o),
     }
 }
 
@@ -90,34 +75,7 @@ fn good_end(e: RawEnd) -> bool
 fn good_dates(r: RawDates) -> bool
     ensures { result ≡ meanings.good_dates r }
 {
-    let d = r.date;
-    let o = r.offset;
-    let e = r.end;
-    if good_date(d) {
-        if good_offset(o) { good_end(e) } else { false }
-    } else {
-        false
-    }
-}
-
-// The year, or 0.
-fn year_of(y: Year) -> u16
-    ensures { result ≡ meanings.year_of y }
-{
-    match y {
-        Year::Absent => 0,
-        Year::Given(n) => n,
-    }
-}
-
-// A date as it was read.
-fn dated(d: RawDate) -> Date
-    ensures { result ≡ meanings.dated d }
-{
-    let y = d.year;
-    let day = d.day;
-    let year = year_of(y);
-    Date { year, day }
+    good_date(r.date) && good_offset(r.offset) && good_end(r.end)
 }
 
 // An offset in range.
@@ -130,146 +88,107 @@ fn offset_of(o: RawOffset) -> DateOffset
     }
 }
 
-// Which names of a date and its offset call for a warning.
-fn odd_of(d: RawDate, o: RawOffset) -> Odd
-    ensures { result ≡ meanings.odd_of d o }
+// A date as it was read, with its year or 0, and its offset.
+fn written(d: RawDate, o: RawOffset) -> SpanEnd
+    ensures date { result.date ≡ meanings.dated d }
+    ensures offset { result.offset ≡ meanings.offset_of o }
+    ensures odd { result.odd ≡ meanings.odd_of d o }
 {
-    Odd {
-        name: d.odd_name,
-        weekday: d.odd_weekday,
-        offset: o.odd,
+    SpanEnd {
+        date: Date {
+            year: d.year.unwrap_or(0),
+            day: d.day,
+        },
+        offset: offset_of(o),
+        odd: Odd {
+            name: d.odd_name,
+            weekday: d.odd_weekday,
+            offset: o.odd,
+        },
     }
 }
 
-// Of a bare day, which has no name, and its offset.
-fn bare_odd(o: RawOffset) -> Odd
-    ensures { result ≡ meanings.bare_odd o }
+// The date of a bare day after a start of each form: after a fixed date by the calendar, after a weekday date in its month and year, after easter refused.
+fn bare_date(start: Date, e: u8) -> Result<Date, Reason>
+    requires { start.year ≤ 9999 }
+    ensures { result ≡ meanings.bare_date start e start.day }
 {
-    Odd {
-        name: false,
-        weekday: false,
-        offset: o.odd,
+    let year = start.year;
+    match start.day {
+        Day::Fixed(month, d) => Ok(bare_end(YearMonth { year, month }, d, e)),
+        Day::Weekday(month, _, _) => Ok(Date {
+            year,
+            day: Day::Fixed(month, e),
+        }),
+        Day::Easter => Err(Reason::EasterDay),
     }
 }
 
-// Of an end that is not written.
-fn no_odd() -> Odd
-    ensures { result ≡ meanings.no_odd }
+// From a start to each kind of end: no end is the start with its offset. A name that is not written calls for no warning.
+// That the start's year is at most 9999 is asked here, and is no invariant of `Date`: a bare end may be in year 10000, and `records::Date` is both.
+fn ended(start: SpanEnd, end: RawEnd) -> Meant
+    requires { start.date.year ≤ 9999 }
+    ensures { result ≡ meanings.ended start.date start.offset start.odd end }
 {
-    Odd {
+    let quiet = Odd {
         name: false,
         weekday: false,
         offset: false,
-    }
-}
-
-// Dates from one to another, and which names of each call for a warning.
-fn dates_of(
-    start: Date,
-    before: DateOffset,
-    end: Date,
-    after: DateOffset,
-    odd_start: Odd,
-    odd_end: Odd,
-) -> Meant
-    ensures { result ≡ meanings.dates start before end after odd_start odd_end }
-{
-    Meant::Is(Item::Dates(DateSpan {
-        start,
-        start_offset: before,
-        end,
-        end_offset: after,
-        odd_start,
-        odd_end,
+    };
+    let end = match end {
+        RawEnd::Nothing => SpanEnd {
+            odd: quiet,
+            ..start
+        },
+        RawEnd::Plus => SpanEnd {
+            date: last_day(start.date.year),
+            offset: DateOffset { wday: 0, days: 0 },
+            odd: quiet,
+        },
+        RawEnd::Until(d, o) => written(d, o),
+        RawEnd::Bare(n, o) => SpanEnd {
+            date: bare_date(start.date, n)?,
+            offset: offset_of(o),
+            odd: Odd {
+                offset: o.odd,
+                ..quiet
+            },
+        },
+    };
+    Ok(Item::Dates(DateSpan {
+        start: start.date,
+        start_offset: start.offset,
+        end: end.date,
+        end_offset: end.offset,
+        odd_start: start.odd,
+        odd_end: end.odd,
     }))
 }
 
-// A bare day after a start of each form: after a fixed date by the calendar, after a weekday date its month and year, after easter refused.
-fn bare(
-    start: Date,
-    before: DateOffset,
-    e: u8,
-    after: DateOffset,
-    odd_start: Odd,
-    odd_end: Odd,
-) -> Meant
-    requires { start.year ≤ 9999 }
-    ensures { result ≡ meanings.bare start before e after odd_start odd_end start.day }
-{
-    let year = start.year;
-    let day = start.day;
-    match day {
-        Day::Fixed(m, d) => {
-            let end = bare_end(YearMonth { year, month: m }, d, e);
-            dates_of(start, before, end, after, odd_start, odd_end)
-        }
-        Day::Weekday(m, _, _) => {
-            let same = Date {
-                year,
-                day: Day::Fixed(m, e),
-            };
-            dates_of(start, before, same, after, odd_start, odd_end)
-        }
-        Day::Easter => Meant::Refused(EASTER_DAY),
-    }
-}
-
-// From a start to each kind of end: no end is the start with its offset.
-fn ended(start: Date, before: DateOffset, odd: Odd, end: RawEnd) -> Meant
-    requires { start.year ≤ 9999 }
-    ensures { result ≡ meanings.ended start before odd end }
-{
-    match end {
-        RawEnd::Nothing => dates_of(start, before, start, before, odd, no_odd()),
-        RawEnd::Plus => {
-            let last = last_day(start.year);
-            let none = DateOffset { wday: 0, days: 0 };
-            dates_of(start, before, last, none, odd, no_odd())
-        }
-        RawEnd::Until(e, p) => {
-            let until = dated(e);
-            let after = offset_of(p);
-            dates_of(start, before, until, after, odd, odd_of(e, p))
-        }
-        RawEnd::Bare(e, p) => {
-            let after = offset_of(p);
-            bare(start, before, e, after, odd, bare_odd(p))
-        }
-    }
-}
-
 // The meaning of a date item.
+#[tactic(auto, unfolding(crate::specs::Meanings::date_meaning), using(crate::proofs::Good::start_small))]
 pub fn date_meaning(r: RawDates) -> Meant
     ensures { result ≡ meanings.date_meaning r }
 {
-    if good_dates(r) {
-        let d = r.date;
-        let o = r.offset;
-        let e = r.end;
-        let start = dated(d);
-        let before = offset_of(o);
-        let odd = odd_of(d, o);
-        ended(start, before, odd, e)
-    } else {
-        Meant::Refused(RANGE)
+    if !good_dates(r) {
+        return Err(Reason::Range);
     }
+    ended(written(r.date, r.offset), r.end)
 }
 
 // The meaning of months, which go round: only the year is judged.
+#[tactic(auto, unfolding(crate::specs::Meanings::month_meaning))]
 pub fn month_meaning(r: RawMonths) -> Meant
     ensures { result ≡ meanings.month_meaning r }
 {
-    let y = r.year;
-    if good_years(y) {
-        let year = year_of(y);
-        Meant::Is(Item::Months(MonthSpan {
-            year,
-            first: r.first,
-            last: r.last,
-            odd_first: r.odd_first,
-            odd_last: r.odd_last,
-        }))
-    } else {
-        Meant::Refused(RANGE)
+    if !good_years(r.year) {
+        return Err(Reason::Range);
     }
+    Ok(Item::Months(MonthSpan {
+        year: r.year.unwrap_or(0),
+        first: r.first,
+        last: r.last,
+        odd_first: r.odd_first,
+        odd_last: r.odd_last,
+    }))
 }

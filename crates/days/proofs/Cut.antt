@@ -17,7 +17,8 @@ use Rattle.names.proofs.Laws.{either}
 use lib.IntN.{ℤ}
 use Rattle.records.specs.declared.Holiday.{Holiday}
 use Rattle.records.specs.declared.Item.TheVariants.{Holidays}
-use Rattle.records.specs.declared.Meant.TheVariants.{Is, Refused}
+use Rattle.std.specs.Prelude.{Ok, Err}
+use Rattle.names.specs.declared.refusals.Reason.TheVariants.{Range}
 use Rattle.records.proofs.Cut.{Alike, Refuses, item_alike}
 use Rattle.days.specs.Offsets.{plus_or_minus, day_offset, no_days, any_days, wday_offset, offset, good_days}
 use Rattle.days.specs.Entries.{back_entry, front_entry, entry, next_entry, no_marks, entries, bits}
@@ -118,12 +119,12 @@ flagged_refuses first last days starts ends = either Refuses (eqb starts 0 && eq
 pub weekday_refuses : (r : RawWeekdays) → Refuses (weekday_meaning r)
 unfolding weekday_meaning
 weekday_refuses r =
-    either Refuses (not ((r.marks).good && good_days r.days)) (Refused 4) (flagged (r.first, r.odd_first) (r.last, r.odd_last) r.days (bits (r.marks).starts) (bits (r.marks).ends))
+    either Refuses (not ((r.marks).good && good_days r.days)) (Err Range) (flagged (r.first, r.odd_first) (r.last, r.odd_last) r.days (bits (r.marks).starts) (bits (r.marks).ends))
     (omega arith) (flagged_refuses _ _ _ _ _)
 
 pub holiday_refuses : (h : Holiday) → Refuses (holiday_meaning h)
 unfolding holiday_meaning
-holiday_refuses h = either Refuses (not (good_days h.days)) (Refused 4) (Is (Holidays h)) (omega arith) tt
+holiday_refuses h = either Refuses (not (good_days h.days)) (Err Range) (Ok (Holidays h)) (omega arith) tt
 
 -- the items
 module _ {u : List ℕ} where

@@ -1,14 +1,12 @@
 -- Holiday: `PH` or `SH` with optional day offset (docs/RULES.md, 2).
-use Rattle.std.specs.Prelude.{ℕ, not, if◌then◌else◌}
+use Rattle.std.specs.Prelude.{ℕ, not, Ok, Err, if◌then◌else◌}
 use Rattle.names.specs.Read.{Reader, pure, ◌>>=◌}
 use Rattle.names.specs.Names.{name, holiday}
-use Rattle.names.specs.Refusals.{range}
-use Rattle.records.specs.Items.{item, meant}
+use Rattle.names.specs.declared.refusals.Reason.TheVariants.{Range}
+use Rattle.records.specs.Items.{Meant, item, meant}
 use Rattle.records.specs.declared.Holiday.{Holiday}
 use Rattle.records.specs.declared.Item.{Item}
 use Rattle.records.specs.declared.Item.TheVariants.{Holidays}
-use Rattle.records.specs.declared.Meant.{Meant}
-use Rattle.records.specs.declared.Meant.TheVariants.{Is, Refused}
 use Rattle.days.specs.Offsets.{any_days, good_days}
 
 -- the shape after the name
@@ -25,7 +23,7 @@ holiday_shape = do
 
 -- the meaning
 unfoldable pub holiday_meaning : Holiday → Meant
-holiday_meaning h = if not (good_days h.days) then Refused range else Is (Holidays h)
+holiday_meaning h = if not (good_days h.days) then Err Range else Ok (Holidays h)
 
 -- a holiday item
 unfoldable pub holiday_item : Reader Item

@@ -2,4 +2,3 @@ pub mod Offsets
 pub mod Entries
 pub mod Weekdays
 pub mod Holidays
-pub mod Seen

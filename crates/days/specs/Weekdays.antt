@@ -1,17 +1,15 @@
 -- Weekday: `Wd`, `Wd-Wd`, or `Wd[entries]` with optional day offset. In the second edition `Wd` or `Wd-Wd`, each with optional `[entries]` and optional day offset (docs/RULES.md, 2).
-use Rattle.std.specs.Prelude.{ℕ, Bool, false, ◌&&◌, not, eqb, ℤ, if◌then◌else◌}
+use Rattle.std.specs.Prelude.{ℕ, Bool, false, ◌&&◌, not, eqb, ℤ, Ok, Err, if◌then◌else◌}
 use Rattle.names.specs.Read.{Reader, pure, ◌>>=◌, ◌>>◌, ◌or◌, maybe}
 use Rattle.names.specs.Texts.{sign}
 use Rattle.names.specs.Names.{weekday}
 use Rattle.names.specs.Spellings.{odd_from, named}
-use Rattle.names.specs.Refusals.{range}
+use Rattle.names.specs.declared.refusals.Reason.TheVariants.{Range}
 use Rattle.names.specs.declared.Manner.{Manner}
 use Rattle.names.specs.declared.Manner.TheVariants.{First, Second, House}
-use Rattle.records.specs.Items.{item, meant}
+use Rattle.records.specs.Items.{Meant, item, meant}
 use Rattle.records.specs.declared.Item.{Item}
 use Rattle.records.specs.declared.Item.TheVariants.{Weekdays}
-use Rattle.records.specs.declared.Meant.{Meant}
-use Rattle.records.specs.declared.Meant.TheVariants.{Is, Refused}
 use Rattle.days.specs.Offsets.{no_days, any_days, good_days}
 use Rattle.days.specs.Entries.{no_marks, entries, bits}
 use Rattle.days.specs.declared.Marks.{Marks}
@@ -88,7 +86,7 @@ weekday_shape m = do
 -- weekdays with these flags
 abbrev pub weekdays_of : Weekday → Weekday → ℤ → ℕ → ℕ → Meant
 weekdays_of first last days starts ends =
-    Is (Weekdays (record { first = first.0; last = last.0; days = days; starts = starts; ends = ends; odd_first = first.1; odd_last = last.1 }))
+    Ok (Weekdays (record { first = first.0; last = last.0; days = days; starts = starts; ends = ends; odd_first = first.1; odd_last = last.1 }))
 
 -- if no flag of the ten is set, all ten are
 unfoldable pub flagged : Weekday → Weekday → ℤ → ℕ → ℕ → Meant
@@ -97,7 +95,7 @@ flagged first last days starts ends = if eqb starts 0 && eqb ends 0 then weekday
 -- the meaning
 unfoldable pub weekday_meaning : RawWeekdays → Meant
 weekday_meaning r =
-    if not ((r.marks).good && good_days r.days) then Refused range
+    if not ((r.marks).good && good_days r.days) then Err Range
     else flagged (r.first, r.odd_first) (r.last, r.odd_last) r.days (bits (r.marks).starts) (bits (r.marks).ends)
 
 -- a weekday item

@@ -1,103 +1,71 @@
 // Entry: `n`, `n-n`, `-n`. Entries set flag n; a descending pair sets none.
 ghost use Rattle.std.specs.Prelude.{◌≡◌};
+ghost use Rattle.names.specs.Seen.{seen};
 ghost use Rattle.days.specs.Entries as entries;
-ghost use Rattle.days.specs.Seen.{seen_entry, seen_marks};
 
-use crate::{Entry, EntryRead, Flags, Marks, MarksRead};
-use names::{Cursor, Num, Step, within};
+use crate::{Entry, Flags, Marks};
+use names::Cursor;
 
 // `-n`
-fn back_entry(s: &[u8], c: Cursor) -> EntryRead
-    ensures { entries.back_entry s.now c.at ≡ seen_entry result }
+#[tactic(auto, unfolding(crate::specs::Entries::back_entry))]
+fn back_entry(s: &[u8], c: Cursor) -> Option<(Entry, Cursor)>
+    ensures { entries.back_entry s.now c.at ≡ seen (λ a. a) result }
 {
-    let minus = c.sign(s, b'-');
-    let Step::Got(d) = minus else {
-        return EntryRead::Missing;
+    let d = c.sign(s, b'-')?;
+    let (n, next) = d.ordinal(s)?;
+    let entry = Entry {
+        back: true,
+        first: n as u8,
+        last: n as u8,
     };
-    let number = d.ordinal(s);
-    let Num::Got(n, e) = number else {
-        return EntryRead::Missing;
-    };
-    let k = n as u8;
-    EntryRead::Got(
-        Entry {
-            back: true,
-            first: k,
-            last: k,
-        },
-        e,
-    )
+    Some((entry, next))
 }
 
 // `n` or `n-n`
-fn front_entry(s: &[u8], c: Cursor) -> EntryRead
-    ensures { entries.front_entry s.now c.at ≡ seen_entry result }
+#[tactic(auto, unfolding(crate::specs::Entries::front_entry))]
+fn front_entry(s: &[u8], c: Cursor) -> Option<(Entry, Cursor)>
+    ensures { entries.front_entry s.now c.at ≡ seen (λ a. a) result }
 {
-    let number = c.ordinal(s);
-    let Num::Got(n, d) = number else {
-        return EntryRead::Missing;
+    let (first, d) = c.ordinal(s)?;
+    let (last, next) = d
+        .sign(s, b'-')
+        .and_then(|e| e.ordinal(s))
+        .unwrap_or((first, d));
+    let entry = Entry {
+        back: false,
+        first: first as u8,
+        last: last as u8,
     };
-    let k = n as u8;
-    let alone = EntryRead::Got(
-        Entry {
-            back: false,
-            first: k,
-            last: k,
-        },
-        d,
-    );
-    let minus = d.sign(s, b'-');
-    let Step::Got(e) = minus else {
-        return alone;
-    };
-    let second = e.ordinal(s);
-    let Num::Got(m, f) = second else {
-        return alone;
-    };
-    EntryRead::Got(
-        Entry {
-            back: false,
-            first: k,
-            last: m as u8,
-        },
-        f,
-    )
+    Some((entry, next))
 }
 
 // Entry: `n`, `n-n`, `-n`.
-fn entry(s: &[u8], c: Cursor) -> EntryRead
-    ensures { entries.entry s.now c.at ≡ seen_entry result }
+#[tactic(auto, unfolding(crate::specs::Entries::entry))]
+fn entry(s: &[u8], c: Cursor) -> Option<(Entry, Cursor)>
+    ensures { entries.entry s.now c.at ≡ seen (λ a. a) result }
 {
-    let back = back_entry(s, c);
-    let EntryRead::Missing = back else {
-        return back;
-    };
-    front_entry(s, c)
+    back_entry(s, c).or_else(|| front_entry(s, c))
 }
 
 // A comma and an entry.
-fn next_entry(s: &[u8], c: Cursor) -> EntryRead
-    ensures { entries.next_entry s.now c.at ≡ seen_entry result }
+#[tactic(auto, unfolding(crate::specs::Entries::next_entry))]
+fn next_entry(s: &[u8], c: Cursor) -> Option<(Entry, Cursor)>
+    ensures { entries.next_entry s.now c.at ≡ seen (λ a. a) result }
 {
-    let comma = c.sign(s, b',');
-    let Step::Got(d) = comma else {
-        return EntryRead::Missing;
-    };
+    let d = c.sign(s, b',')?;
     entry(s, d)
 }
 
 // Flag n of those that were set, with those from first to last.
+#[tactic(auto, unfolding(names::specs::Tests::within))]
 fn set(old: bool, first: u8, last: u8, n: u8) -> bool
     ensures { result ≡ entries.set old first last n }
 {
-    if old {
-        true
-    } else {
-        within(first as u32, last as u32, n as u32)
-    }
+    old || (first..=last).contains(&n)
 }
 
 // These flags, with those from first to last: a descending pair sets none.
+#[tactic(auto, unfolding(crate::specs::Entries::set_all))]
 fn set_all(f: Flags, first: u8, last: u8) -> Flags
     ensures { result ≡ entries.set_all f first last }
 {
@@ -111,14 +79,11 @@ fn set_all(f: Flags, first: u8, last: u8) -> Flags
 }
 
 // n from 1 to 5.
+#[tactic(auto, unfolding(crate::specs::Entries::good_entry, names::specs::Tests::within))]
 fn good_entry(e: Entry) -> bool
     ensures { result ≡ entries.good_entry e }
 {
-    if within(1, 5, e.first as u32) {
-        within(1, 5, e.last as u32)
-    } else {
-        false
-    }
+    (1..=5).contains(&e.first) && (1..=5).contains(&e.last)
 }
 
 // No entry yet.
@@ -140,49 +105,42 @@ pub fn no_marks() -> Marks
 }
 
 // What one entry more sets.
+#[tactic(auto, unfolding(crate::specs::Entries::marked))]
 fn marked(m: Marks, e: Entry) -> Marks
     ensures { result ≡ entries.marked m e }
 {
-    let starts = m.starts;
-    let ends = m.ends;
-    let good = if m.good { good_entry(e) } else { false };
+    let good = m.good && good_entry(e);
     if e.back {
-        let more = set_all(ends, e.first, e.last);
-        return Marks {
-            starts,
-            ends: more,
+        Marks {
+            ends: set_all(m.ends, e.first, e.last),
             good,
-        };
-    }
-    let front = set_all(starts, e.first, e.last);
-    Marks {
-        starts: front,
-        ends,
-        good,
+            ..m
+        }
+    } else {
+        Marks {
+            starts: set_all(m.starts, e.first, e.last),
+            good,
+            ..m
+        }
     }
 }
 
 // One or more entries, commas between: what they set.
-pub fn entries(s: &[u8], c: Cursor) -> MarksRead
-    ensures { entries.entries s.now c.at ≡ seen_marks result }
+#[tactic(auto, using(crate::proofs::Laws::marked_none, crate::proofs::Laws::marked_first, crate::proofs::Laws::marked_more, crate::proofs::Laws::marked_done))]
+pub fn entries(s: &[u8], c: Cursor) -> Option<(Marks, Cursor)>
+    ensures { entries.entries s.now c.at ≡ seen (λ a. a) result }
 {
-    let first = entry(s, c);
-    let EntryRead::Got(e, d) = first else {
-        return MarksRead::Missing;
-    };
-    let mut marks = marked(no_marks(), e);
-    let mut at = d.at;
-    loop {
-        let more = next_entry(s, Cursor { at });
-        let EntryRead::Got(f, g) = more else {
-            return MarksRead::Got(marks, Cursor { at });
-        };
-        marks = marked(marks, f);
-        at = g.at;
+    let (first, d) = entry(s, c)?;
+    let mut marks = marked(no_marks(), first);
+    let mut next = d;
+    while let Some((more, after)) = next_entry(s, next) {
+        marks = marked(marks, more);
+        next = after;
     }
+    Some((marks, next))
 }
 
-// A flag as a number: n where it is set.
+// A flag as a number: n where it is set. (By `u8::from`, a product would stand for each branch: no plainer.)
 fn bit(b: bool, n: u8) -> u8
     ensures { result ≡ entries.bit b n }
 {
@@ -190,6 +148,7 @@ fn bit(b: bool, n: u8) -> u8
 }
 
 // Bit n-1 for n.
+#[tactic(auto, unfolding(crate::specs::Entries::bits))]
 pub fn bits(f: Flags) -> u8
     ensures { result ≡ entries.bits f }
 {

@@ -7,9 +7,7 @@ mod offsets;
 mod weekdays;
 
 pub use holidays::{holiday_item, holiday_item_after};
-use names::Cursor;
 pub use offsets::{OUT_OF_RANGE, day_offset, offset};
-use records::Meant;
 pub use weekdays::{weekday_item, weekday_item_after};
 
 // An offset as it is read: a weekday to go to, the previous where it is below 0, 0 none; a number of days; and whether the weekday's name calls for a warning.
@@ -21,6 +19,7 @@ pub struct RawOffset {
 }
 
 // Which of a month's weekdays are meant: the first to the fifth.
+// Five fields, and no mask or array: the definitions set_all and bits (specs/Entries.antt) name each.
 #[derive(Clone, Copy)]
 pub struct Flags {
     pub one: bool,
@@ -39,6 +38,7 @@ pub struct Entry {
 }
 
 // The flags that entries set, from the month's start and from its end, and whether all their numbers are in range.
+// (No option: entries are read to their end whatever their numbers, as `marked` of specs/Entries says.)
 #[derive(Clone, Copy)]
 pub struct Marks {
     pub starts: Flags,
@@ -55,82 +55,4 @@ pub struct RawWeekdays {
     pub days: i16,
     pub odd_first: bool,
     pub odd_last: bool,
-}
-
-// A plus, or a minus, and the place after it; or neither.
-#[derive(Clone, Copy)]
-pub enum SignRead {
-    Got(bool, Cursor),
-    Missing,
-}
-
-// What reading a day offset finds.
-#[derive(Clone, Copy)]
-pub enum DaysRead {
-    Got(i16, Cursor),
-    Missing,
-}
-
-// A weekday to go to, whether its name calls for a warning, and the place after it; or none.
-#[derive(Clone, Copy)]
-pub enum WdayRead {
-    Got(i16, bool, Cursor),
-    Missing,
-}
-
-// An offset, which may be none, and the place after it.
-#[derive(Clone, Copy)]
-pub struct OffsetThen {
-    pub offset: RawOffset,
-    pub next: Cursor,
-}
-
-// A day offset, which may be none, and the place after it.
-#[derive(Clone, Copy)]
-pub struct DaysThen {
-    pub days: i16,
-    pub next: Cursor,
-}
-
-// What reading an entry finds.
-#[derive(Clone, Copy)]
-pub enum EntryRead {
-    Got(Entry, Cursor),
-    Missing,
-}
-
-// What reading entries finds.
-#[derive(Clone, Copy)]
-pub enum MarksRead {
-    Got(Marks, Cursor),
-    Missing,
-}
-
-// What reading weekdays finds after the first.
-#[derive(Clone, Copy)]
-pub enum WeekdaysRead {
-    Got(RawWeekdays, Cursor),
-    Missing,
-}
-
-// What weekdays mean, and the place after them.
-#[derive(Clone, Copy)]
-pub struct WeekdaysThen {
-    pub meant: Meant,
-    pub next: Cursor,
-}
-
-// The last weekday of a range, which may be the first; whether its name calls for a warning; and the place after it.
-#[derive(Clone, Copy)]
-pub struct LastThen {
-    pub last: u8,
-    pub odd: bool,
-    pub next: Cursor,
-}
-
-// The flags that entries set, if there are any, and the place after them.
-#[derive(Clone, Copy)]
-pub struct MarksThen {
-    pub marks: Marks,
-    pub next: Cursor,
 }

@@ -1,4 +1,5 @@
 -- The cut law: the rules of a text with a `;` outside quotes are those before it and those after it.
+use Rattle.std.specs.Prelude.{None, Option, Some}
 use Prim.Native.Nat.{ℕ, zero, suc, ◌+◌, ◌≤◌, ◌<◌}
 use mathlib.Core.List.{List, [], ◌∷◌, ◌++◌}
 use mathlib.Core.List as list
@@ -23,8 +24,6 @@ use Rattle.items.proofs.Quotes.{missing_alike}
 use Rattle.items.proofs.Cut.{placed_moves}
 use Rattle.rules.specs.Separators.{comma_blank, bars, separator, next}
 use Rattle.rules.specs.Rules.{Rule}
-use Rattle.rules.specs.declared.Next.{Next}
-use Rattle.rules.specs.declared.Next.TheVariants.{Another, Finished}
 use Rattle.rules.proofs.Cut.{start_moves, rule_moves, rule_local, comma_blank_local, bars_local}
 use Rattle.text_rules.specs.Texts.{parted, more_rules, no_more, rules}
 use Rattle.text_rules.proofs.Moves.{rules_are}
@@ -65,14 +64,14 @@ module _ (s t : List ℕ) {B : Type 0} {P : B → ℕ → B → ℕ → Type 0} 
 -- ---- what stands after a rule
 
 -- the next rule is the same; or the text's end became the `;`, after which another rule stands
-data Goes (s : List ℕ) (i : ℕ) : Next → ℕ → Next → ℕ → Type 0 where
-  on : {n j : ℕ} → i ≤ j → Side false s j → Goes s i (Another n) j (Another n) j
-  over : {j : ℕ} → i ≤ j → j ≡ length s → Goes s i (Another 0) (suc j) Finished j
+data Goes (s : List ℕ) (i : ℕ) : Option ℕ → ℕ → Option ℕ → ℕ → Type 0 where
+  on : {n j : ℕ} → i ≤ j → Side false s j → Goes s i (Some n) j (Some n) j
+  over : {j : ℕ} → i ≤ j → j ≡ length s → Goes s i (Some 0) (suc j) None j
 
 module _ (s t : List ℕ) where
   -- a separator that begins with no `;`
   made_cut : {k i : ℕ} {m : Reader (Unit {0})} (n : ℕ) → Local Stop keep [] false false k m m → Side false s i →
-      Cut (Goes s i) (branch m (λ _. pure (Another n)) nothing (s ++ 59 ∷ t) i) (branch m (λ _. pure (Another n)) nothing s i)
+      Cut (Goes s i) (branch m (λ _. pure (Some n)) nothing (s ++ 59 ∷ t) i) (branch m (λ _. pure (Some n)) nothing s i)
   made_cut n M w = cut_then s t _ M (λ _. refl) w (λ _ j h z. found (on (omega arith) z))
 
   -- the text's end, or what parts a rule from the next
@@ -80,13 +79,13 @@ module _ (s t : List ℕ) where
   unfolding next separator at_end byte one
   next_cut i w = go (dec_lt i (length s))
     where
-      others : Reader Next
-      others = (do comma_blank; pure (Another 1)) or (do bars; pure (Another 2))
+      others : Reader (Option ℕ)
+      others = (do comma_blank; pure (Some 1)) or (do bars; pure (Some 2))
 
       semicolon : i < length s → (b : Bool) → eqb 59 (get_or s i 0) ≡ b →
           Cut (Goes s i) (follow (s ++ 59 ∷ t) i (follow (s ++ 59 ∷ t) i (follow (s ++ 59 ∷ t) i (when b (got (get_or s i 0) (suc i))) (λ _. pure (tt {0})) nothing)
-          (λ _. pure (Another 0)) nothing) pure others)
-          (follow s i (follow s i (follow s i (when b (got (get_or s i 0) (suc i))) (λ _. pure (tt {0})) nothing) (λ _. pure (Another 0)) nothing) pure others)
+          (λ _. pure (Some 0)) nothing) pure others)
+          (follow s i (follow s i (follow s i (when b (got (get_or s i 0) (suc i))) (λ _. pure (tt {0})) nothing) (λ _. pure (Some 0)) nothing) pure others)
       semicolon h true q = found (on {j = suc i} (omega arith) (next_at w h (stays (eqb 59) refl (get_or s i 0) false q)))
       semicolon h false q = cut_or s t i _ (made_cut 1 comma_blank_local w) (made_cut 2 bars_local w)
 
@@ -132,17 +131,17 @@ rule_still : (r : Rule) → rule_moves 0 r ≡ r
 rule_still r = rw (start_still r.0.comment.length r.0.comment.start, zero-add r.0.place, items_still r.1)
 
 -- the same rule, of a byte at least, and what stands after it
-abbrev Steps : List ℕ → ℕ → Rule × Next → ℕ → Rule × Next → ℕ → Type 0
+abbrev Steps : List ℕ → ℕ → Rule × Option ℕ → ℕ → Rule × Option ℕ → ℕ → Type 0
 Steps s i x j y e = (x.0 ≡ y.0) × Goes s (suc i) x.1 j y.1 e
 
 module _ (m : Manner) (s t : List ℕ) where
   -- from an earlier place
-  goes_from : {i j : ℕ} {x y : Next} {p q : ℕ} → i ≤ j → Goes s j x p y q → Goes s i x p y q
+  goes_from : {i j : ℕ} {x y : Option ℕ} {p q : ℕ} → i ≤ j → Goes s j x p y q → Goes s i x p y q
   goes_from h (on {j = p} l z) = on {j = p} (omega arith) z
   goes_from h (over {j = p} l e) = over {j = p} (omega arith) e
 
   -- what stands after a rule, beside that rule
-  paired : {i j : ℕ} (r : Rule) {x y : Read Next} → suc i ≤ j → Cut (Goes s j) x y → Cut (Steps s i) (follow (s ++ 59 ∷ t) j x (λ n. pure (r, n)) nothing) (follow s j y (λ n. pure (r, n)) nothing)
+  paired : {i j : ℕ} (r : Rule) {x y : Read (Option ℕ)} → suc i ≤ j → Cut (Goes s j) x y → Cut (Steps s i) (follow (s ++ 59 ∷ t) j x (λ n. pure (r, n)) nothing) (follow s j y (λ n. pure (r, n)) nothing)
   paired r h (found g) = found (refl, goes_from h g)
   paired r h neither = neither
   paired r h both = both
@@ -155,13 +154,13 @@ module _ (m : Manner) (s t : List ℕ) where
       cut_then s t _ blanks_local (λ _. refl) z (λ _ e g y. paired r (omega arith) (must_cut s t e y)))
 
   -- a step from an earlier place
-  steps_from : {i j : ℕ} {x y : Read (Rule × Next)} → i ≤ j → Cut (Steps s j) x y → Cut (Steps s i) x y
+  steps_from : {i j : ℕ} {x y : Read (Rule × Option ℕ)} → i ≤ j → Cut (Steps s j) x y → Cut (Steps s i) x y
   steps_from h (found p) = found (p.0, goes_from (omega arith) p.1)
   steps_from h neither = neither
   steps_from h both = both
 
   -- a rule of a text
-  step_cut : (separator i : ℕ) → Side false s i → Cut (Steps s i) (more_rules m (Another separator) (s ++ 59 ∷ t) i) (more_rules m (Another separator) s i)
+  step_cut : (separator i : ℕ) → Side false s i → Cut (Steps s i) (more_rules m (Some separator) (s ++ 59 ∷ t) i) (more_rules m (Some separator) s i)
   unfolding more_rules
   step_cut separator i w = cut_then s t _ blanks_local (λ _. refl) w (λ _ j h z. steps_from (omega arith) (parted_cut separator j z))
 
@@ -196,24 +195,24 @@ module _ (m : Manner) (s t : List ℕ) where
 
   -- by the bytes that are left
   cut_from : (n separator i : ℕ) → Side false s i → length s < n + i →
-      chain (more_rules m) no_more (Another separator) (s ++ 59 ∷ t) i ≡ joined (chain (more_rules m) no_more (Another separator) s i) (rules m (s ++ 59 ∷ t) (suc (length s)))
+      chain (more_rules m) no_more (Some separator) (s ++ 59 ∷ t) i ≡ joined (chain (more_rules m) no_more (Some separator) s i) (rules m (s ++ 59 ∷ t) (suc (length s)))
   unfolding no_more more_rules rules
   cut_from zero separator i w h = absurd (omega (arith, w.fits))
   cut_from (suc n) separator i w h =
-      rw (rules_are m (Another separator) (s ++ 59 ∷ t) i, rules_are m (Another separator) s i) (go (λ q j z l. cut_from n q j z l) (step_cut m s t separator i w))
+      rw (rules_are m (Some separator) (s ++ 59 ∷ t) i, rules_are m (Some separator) s i) (go (λ q j z l. cut_from n q j z l) (step_cut m s t separator i w))
     where
       ends : ((q j : ℕ) → Side false s j → length s < n + j →
-          chain (more_rules m) no_more (Another q) (s ++ 59 ∷ t) j ≡ joined (chain (more_rules m) no_more (Another q) s j) (rules m (s ++ 59 ∷ t) (suc (length s)))) →
-          (r : Rule) {x y : Next} {j e : ℕ} → Goes s (suc i) x j y e →
+          chain (more_rules m) no_more (Some q) (s ++ 59 ∷ t) j ≡ joined (chain (more_rules m) no_more (Some q) s j) (rules m (s ++ 59 ∷ t) (suc (length s)))) →
+          (r : Rule) {x y : Option ℕ} {j e : ℕ} → Goes s (suc i) x j y e →
           map (before r) (chain (more_rules m) no_more x) (s ++ 59 ∷ t) j ≡ joined (map (before r) (chain (more_rules m) no_more y) s e) (rules m (s ++ 59 ∷ t) (suc (length s)))
-      ends ih r (on {n = q} {j} l z) = rw (ih q j z (omega arith)) (front r j j (chain (more_rules m) no_more (Another q) s j) (rules m (s ++ 59 ∷ t) (suc (length s))))
-      ends ih r (over {j} l e) = rw (rules_are m Finished s j, e) (alone r (suc (length s)) (rules m (s ++ 59 ∷ t) (suc (length s))))
+      ends ih r (on {n = q} {j} l z) = rw (ih q j z (omega arith)) (front r j j (chain (more_rules m) no_more (Some q) s j) (rules m (s ++ 59 ∷ t) (suc (length s))))
+      ends ih r (over {j} l e) = rw (rules_are m None s j, e) (alone r (suc (length s)) (rules m (s ++ 59 ∷ t) (suc (length s))))
 
       go : ((q j : ℕ) → Side false s j → length s < n + j →
-          chain (more_rules m) no_more (Another q) (s ++ 59 ∷ t) j ≡ joined (chain (more_rules m) no_more (Another q) s j) (rules m (s ++ 59 ∷ t) (suc (length s)))) →
-          {x y : Read (Rule × Next)} → Cut (Steps s i) x y →
-          follow (s ++ 59 ∷ t) i x (λ c. map (before c.0) (chain (more_rules m) no_more c.1)) (map last (no_more (Another separator)))
-          ≡ joined (follow s i y (λ c. map (before c.0) (chain (more_rules m) no_more c.1)) (map last (no_more (Another separator)))) (rules m (s ++ 59 ∷ t) (suc (length s)))
+          chain (more_rules m) no_more (Some q) (s ++ 59 ∷ t) j ≡ joined (chain (more_rules m) no_more (Some q) s j) (rules m (s ++ 59 ∷ t) (suc (length s)))) →
+          {x y : Read (Rule × Option ℕ)} → Cut (Steps s i) x y →
+          follow (s ++ 59 ∷ t) i x (λ c. map (before c.0) (chain (more_rules m) no_more c.1)) (map last (no_more (Some separator)))
+          ≡ joined (follow s i y (λ c. map (before c.0) (chain (more_rules m) no_more c.1)) (map last (no_more (Some separator)))) (rules m (s ++ 59 ∷ t) (suc (length s)))
       go ih (found {a = (r, x)} {b = (r', y)} {j} {e} p) = rw p.0 (ends ih r' p.1)
       go ih neither = refl
       go ih both = refl

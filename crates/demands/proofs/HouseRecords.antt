@@ -1,4 +1,5 @@
 -- The sentences of the house profile over rules are those over their records.
+use Rattle.std.specs.Prelude.{None, Option, Some}
 use Prim.Native.Nat.{ℕ, ◌<◌}
 use mathlib.Core.Bool.{Bool, true, false}
 use mathlib.Core.List.{List, [], ◌∷◌, ◌++◌, map}
@@ -10,8 +11,6 @@ use lib.ListN.{set}
 use Rattle.records.specs.Words.{record16, time_words, repeat_word, bit, words_of, Placed, head_words, item_record}
 use Rattle.records.specs.declared.Time.{Time}
 use Rattle.records.specs.declared.Time.TheVariants.{Fixed, Dawn, Sunrise, Sunset, Dusk}
-use Rattle.records.specs.declared.Repeat.{Repeat}
-use Rattle.records.specs.declared.Repeat.TheVariants.{Never, Every}
 use Rattle.records.specs.declared.Span.{Span}
 use Rattle.records.specs.declared.Item.{Item}
 use Rattle.records.specs.declared.Item.TheVariants.{Years, Months, Dates, Weeks, Weekdays, Holidays, Times}
@@ -26,11 +25,11 @@ use Rattle.demands.specs.Houses.{AtMost, word, IsHead, IsSpan, StartAfter, Risin
 -- ---- a span's record
 
 -- the record of a span of these times
-abbrev span_record : Time → Time → Repeat → Bool → Bool → ℕ → List ℤ
+abbrev span_record : Time → Time → Option ℕ → Bool → Bool → ℕ → List ℤ
 span_record t u r open_end alone p = set (record16 (pos 8 ∷ time_words t ++ time_words u ++ (repeat_word r ∷ bit open_end ∷ bit alone ∷ []))) 15 (pos p)
 
 -- what the sentences say of a span, they say of its record
-to_record : (t u : Time) (r : Repeat) (open_end alone : Bool) (p : ℕ) → Clock t → Clock u → r ≡ Never → open_end ≡ false → minutes t < minutes u → SpanKeeps (span_record t u r open_end alone p)
+to_record : (t u : Time) (r : Option ℕ) (open_end alone : Bool) (p : ℕ) → Clock t → Clock u → r ≡ None → open_end ≡ false → minutes t < minutes u → SpanKeeps (span_record t u r open_end alone p)
 unfolding minutes
 to_record (Fixed a) (Fixed b) r open_end alone p h k e f l =
     rw (e, f) (record { clock_start = refl; clock_end = refl; start_midnight = h; end_midnight = k; no_repeat = refl; no_open_end = refl; forward = l })
@@ -47,23 +46,23 @@ to_record (Dusk m) u r open_end alone p h k e f l = absurd h
 two_words : {a b : ℕ} → (a ≡ b → ⊥) → pos a ≡ pos b → ⊥
 two_words h e = h cc
 
-never_of : (r : Repeat) → repeat_word r ≡ repeat_word Never → r ≡ Never
-never_of Never e = refl
-never_of (Every m) e = absurd (let z : ◌≡◌ {A = ℕ} 0 1 = cc in omega arith)
+never_of : (r : Option ℕ) → repeat_word r ≡ repeat_word None → r ≡ None
+never_of None e = refl
+never_of (Some m) e = absurd (let z : ◌≡◌ {A = ℕ} 0 1 = cc in omega arith)
 
 closed_of : (b : Bool) → bit b ≡ pos 0 → b ≡ false
 closed_of true e = absurd (two_words {a = 1} {b = 0} (λ q. omega arith) e)
 closed_of false e = refl
 
 -- and what they say of the record, of the span
-record SpanSentences (t u : Time) (r : Repeat) (open_end : Bool) : Type 0 where
+record SpanSentences (t u : Time) (r : Option ℕ) (open_end : Bool) : Type 0 where
   start : Clock t
   end : Clock u
-  once : r ≡ Never
+  once : r ≡ None
   closed : open_end ≡ false
   forward : minutes t < minutes u
 
-of_record : (t u : Time) (r : Repeat) (open_end alone : Bool) (p : ℕ) → SpanKeeps (span_record t u r open_end alone p) → SpanSentences t u r open_end
+of_record : (t u : Time) (r : Option ℕ) (open_end alone : Bool) (p : ℕ) → SpanKeeps (span_record t u r open_end alone p) → SpanSentences t u r open_end
 unfolding minutes
 of_record (Fixed a) (Fixed b) r open_end alone p k =
     record { start = k.start_midnight; end = k.end_midnight; once = never_of r k.no_repeat; closed = closed_of open_end k.no_open_end; forward = k.forward }
@@ -77,7 +76,7 @@ of_record (Sunset m) u r open_end alone p k = absurd (two_words {a = 3} {b = 0} 
 of_record (Dusk m) u r open_end alone p k = absurd (two_words {a = 4} {b = 0} (λ q. omega arith) k.clock_start)
 
 -- the words of its start and end are their minutes
-start_word : (t u : Time) (r : Repeat) (open_end alone : Bool) (p : ℕ) → Clock t → word 2 (span_record t u r open_end alone p) ≡ pos (minutes t)
+start_word : (t u : Time) (r : Option ℕ) (open_end alone : Bool) (p : ℕ) → Clock t → word 2 (span_record t u r open_end alone p) ≡ pos (minutes t)
 unfolding minutes
 start_word (Fixed a) u r open_end alone p h = refl
 start_word (Dawn m) u r open_end alone p h = absurd h
@@ -85,7 +84,7 @@ start_word (Sunrise m) u r open_end alone p h = absurd h
 start_word (Sunset m) u r open_end alone p h = absurd h
 start_word (Dusk m) u r open_end alone p h = absurd h
 
-end_word : (t u : Time) (r : Repeat) (open_end alone : Bool) (p : ℕ) → Clock t → Clock u → word 4 (span_record t u r open_end alone p) ≡ pos (minutes u)
+end_word : (t u : Time) (r : Option ℕ) (open_end alone : Bool) (p : ℕ) → Clock t → Clock u → word 4 (span_record t u r open_end alone p) ≡ pos (minutes u)
 unfolding minutes
 end_word (Fixed a) (Fixed b) r open_end alone p h k = refl
 end_word (Fixed a) (Dawn m) r open_end alone p h k = absurd k

@@ -1,10 +1,11 @@
 -- A house sheet's rules are read as by the first edition.
+use Rattle.std.specs.Prelude.{Err, None, Ok, Option, Some}
 use Prim.Native.Nat.{ℕ}
 use mathlib.Core.List.{List, [], ◌∷◌}
 use mathlib.Core.Path.{◌≡◌, refl, ap, fun_ext}
 use Rattle.names.specs.declared.Manner.TheVariants.{First, House}
 use Rattle.records.specs.Items.{item}
-use Rattle.records.specs.declared.Meant.{Meant}
+use Rattle.records.specs.Items.{Meant}
 use Rattle.times.specs.Meanings.{span_of, span_meaning}
 use Rattle.times.specs.Spans.{span_shape, time_item}
 use Rattle.times.specs.Shapes.{RawSpan, Alone, Open, Until}
@@ -15,8 +16,6 @@ use Rattle.items.specs.declared.Kind.TheVariants.{Years, MonthDays, Weeks, WeekN
 use Rattle.rules.specs.Rows.{small, first, listed, following}
 use Rattle.rules.specs.Pieces.{goes_on, colon, more}
 use Rattle.rules.specs.Rules.{after_opening, rule}
-use Rattle.rules.specs.declared.Next.{Next}
-use Rattle.rules.specs.declared.Next.TheVariants.{Another, Finished}
 use Rattle.rules.specs.declared.Stage.{Stage}
 use Rattle.rules.specs.declared.Stage.TheVariants.{Beginning, Always, Colon, After}
 use Rattle.text_rules.specs.Texts.{parted, more_rules, rules}
@@ -66,10 +65,10 @@ rule_same : (separator : ℕ) → rule House separator ≡ rule First separator
 unfolding rule after_opening
 rule_same separator = rw (fun_ext more_same)
 
-next_same : (x : Next) → more_rules House x ≡ more_rules First x
+next_same : (x : Option ℕ) → more_rules House x ≡ more_rules First x
 unfolding more_rules parted
-next_same (Another separator) = rw (rule_same separator)
-next_same Finished = refl
+next_same (Some separator) = rw (rule_same separator)
+next_same None = refl
 
 pub rules_same : rules House ≡ rules First
 unfolding rules

@@ -1,4 +1,5 @@
 -- A house reading accepts exactly what edition 1 accepts and what breaks no sentence of the profile, with the same records.
+use Rattle.std.specs.Prelude.{None, Some}
 use Rattle.std.specs.Prelude.{if◌then◌else◌}
 use Prim.Native.Nat.{ℕ, ◌/◌, ◌<◌}
 use mathlib.Core.Bool.{Bool, true, false, not}
@@ -12,8 +13,9 @@ use Rattle.names.specs.Read.{Reader, got, none, refused}
 use Rattle.names.specs.declared.Manner.TheVariants.{First, House}
 use Rattle.rules.specs.Rules.{Rule}
 use Rattle.house.specs.Breaks.{rules_break}
-use Rattle.house.specs.declared.Break.{Break}
-use Rattle.house.specs.declared.Break.TheVariants.{Nowhere, At}
+use Rattle.house.specs.Spans.{Break}
+use Rattle.names.specs.Refusals.{number}
+use Rattle.names.specs.declared.refusals.Refusal.{Refusal}
 use Rattle.house.proofs.Profile.{exactly}
 use Rattle.text_rules.specs.Texts.{rules, records, warnings}
 use Rattle.sheet.specs.Sheets.{answer_of, refusal, judged_text, text_of, sheet_by}
@@ -42,21 +44,21 @@ module _ (l : List Rule) (p : ℕ) where
   abbrev filled : Bool → Answer × List (List ℤ)
   filled full = if full then refusal 10 p else (answer_of 0 0 (length (records l)) (warnings l), records l)
 
-  unbroken_same : (full : Bool) → rules_break l ≡ Nowhere → Same (filled full) (filled full)
+  unbroken_same : (full : Bool) → rules_break l ≡ None → Same (filled full) (filled full)
   unbroken_same true e = same_refusal 10 p (omega arith)
   unbroken_same false e = record { accepted = λ _. (refl, keeps_to l ((exactly l).0 e)); accepts = λ _ _. refl; refuses = λ a. absurd (a refl) }
 
-  broken_same : (full : Bool) (k q : ℕ) → rules_break l ≡ At k q → 0 < k → Same (refusal k q) (filled full)
-  broken_same true k q e h = record { accepted = λ a. absurd (omega arith); accepts = λ a. absurd (omega arith); refuses = λ _ b. absurd (b refl) }
-  broken_same false k q e h = record { accepted = λ a. absurd (omega arith); accepts = λ _ b. absurd (nowhere k q (sym e ∙ (exactly l).1 (keeps_of l b))); refuses = λ a. absurd (a refl) }
+  broken_same : (full : Bool) (r : Refusal) → rules_break l ≡ Some r → 0 < number r.reason → Same (refusal (number r.reason) r.place) (filled full)
+  broken_same true r e h = record { accepted = λ a. absurd (omega arith); accepts = λ a. absurd (omega arith); refuses = λ _ b. absurd (b refl) }
+  broken_same false r e h = record { accepted = λ a. absurd (omega arith); accepts = λ _ b. absurd (nowhere r (sym e ∙ (exactly l).1 (keeps_of l b))); refuses = λ a. absurd (a refl) }
     where
-      nowhere : (k q : ℕ) → At k q ≡ Nowhere → ⊥
-      nowhere k q e = let z : ◌≡◌ {A = ℕ} 0 1 = cc in omega arith
+      nowhere : (r : Refusal) → Some r ≡ None → ⊥
+      nowhere r e = cc
 
 module _ (s : List ℕ) (p n : ℕ) where
   read_same : (l : List Rule × Unit {0}) (j : ℕ) (b : Break) → rules_break l.0 ≡ b → Numbered House (settled l j b) → Same (judged_text p n (settled l j b)) (judged_text p n (got l j))
-  read_same l j Nowhere e h = unbroken_same l.0 p (ltb (n / 16) (length (records l.0))) e
-  read_same l j (At k q) e h = broken_same l.0 p (ltb (n / 16) (length (records l.0))) k q e (number_positive House h)
+  read_same l j None e h = unbroken_same l.0 p (ltb (n / 16) (length (records l.0))) e
+  read_same l j (Some r) e h = broken_same l.0 p (ltb (n / 16) (length (records l.0))) r e (number_positive House h)
 
   rules_judged : (x : Rules) → Numbered House x → Same (judged_text p n (judged House x)) (judged_text p n x)
   rules_judged (got l j) h = read_same l j (rules_break l.0) refl (judged_numbered House (got l j) tt)

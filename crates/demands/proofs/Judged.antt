@@ -1,4 +1,5 @@
 -- The rules of a text that are judged: an edition's are those that were read; a house sheet's are, or else their first break refuses.
+use Rattle.std.specs.Prelude.{None, Some}
 use Rattle.std.specs.Prelude.{if◌then◌else◌}
 use Prim.Native.Nat.{ℕ, ◌+◌, ◌<◌}
 use mathlib.Core.Bool.{Bool, true, false}
@@ -22,8 +23,9 @@ use Rattle.rules.proofs.Cut.{rule_moves}
 use Rattle.house.specs.Spans.{allowed, in_order, span_break}
 use Rattle.house.specs.Breaks.{first_of, item_break, end_with, items_break, separator_break, rule_break, rules_break, judged_by}
 use Rattle.house.specs.Profile.{Each}
-use Rattle.house.specs.declared.Break.{Break}
-use Rattle.house.specs.declared.Break.TheVariants.{Nowhere, At}
+use Rattle.house.specs.Spans.{Break, at}
+use Rattle.names.specs.Refusals.{number}
+use Rattle.names.specs.declared.refusals.Reason.TheVariants.{HouseForm, HouseOrder}
 use Rattle.house.proofs.Laws.{first_assoc}
 use Rattle.house.proofs.Places.{Broken, OfItem, more_broken, none_broken}
 use Rattle.text_rules.specs.Texts.{rules, unbroken, judged_rules}
@@ -35,8 +37,8 @@ Rules = Read (List Rule × Unit {0})
 
 -- rules with this first break
 abbrev pub settled : List Rule × Unit {0} → ℕ → Break → Rules
-settled l j Nowhere = got l j
-settled l j (At k p) = refused k p
+settled l j None = got l j
+settled l j (Some r) = refused (number r.reason) r.place
 
 -- what was read, judged
 abbrev pub judged : Manner → Rules → Rules
@@ -49,8 +51,8 @@ unfolding judged_rules
 judged_is m s p = go (rules m s p)
   where
     one : (l : List Rule × Unit {0}) (j : ℕ) (b : Break) → unbroken l b s j ≡ settled l j b
-    one l j Nowhere = refl
-    one l j (At k q) = refl
+    one l j None = refl
+    one l j (Some r) = refl
 
     go : (x : Rules) → follow s p x (λ l. unbroken l (judged_by m (rules_break l.0))) nothing ≡ judged m x
     go (got l j) = one l j (judged_by m (rules_break l.0))
@@ -59,7 +61,7 @@ judged_is m s p = go (rules m s p)
 
 -- ---- the editions
 
-pub judged_edition : (m : Manner) → ((b : Break) → judged_by m b ≡ Nowhere) → (x : Rules) → judged m x ≡ x
+pub judged_edition : (m : Manner) → ((b : Break) → judged_by m b ≡ None) → (x : Rules) → judged m x ≡ x
 judged_edition m h (got l j) = ap (settled l j) (h (rules_break l.0))
 judged_edition m h none = refl
 judged_edition m h (refused k p) = refl
@@ -111,8 +113,8 @@ break_numbered Second l = tt
 break_numbered House l = go (rules_break l) (rules_numbered l)
   where
     go : (b : Break) → Broken HouseNumber b → Broken (λ k p. NumberIn House k) b
-    go Nowhere h = tt
-    go (At k p) h = inr h
+    go None h = tt
+    go (Some r) h = inr h
 
 -- a refusal has one of them
 abbrev pub Numbered : Manner → Rules → Type 0
@@ -121,8 +123,8 @@ Numbered m none = Unit {0}
 Numbered m (refused k p) = NumberIn m k
 
 settled_numbered : (m : Manner) (l : List Rule × Unit {0}) (j : ℕ) (b : Break) → Broken (λ k p. NumberIn m k) b → Numbered m (settled l j b)
-settled_numbered m l j Nowhere h = tt
-settled_numbered m l j (At k p) h = h
+settled_numbered m l j None h = tt
+settled_numbered m l j (Some r) h = h
 
 pub rules_number : (m : Manner) (s : List ℕ) (p : ℕ) → Numbered m (rules m s p)
 rules_number m s p = go _ (rules m s p) ((rules_ended m []).near s p (omega arith))
@@ -144,12 +146,12 @@ judged_number m s p = rw (judged_is m s p) (judged_numbered m (rules m s p) (rul
 
 -- a break moves with its text
 abbrev break_moves : ℕ → Break → Break
-break_moves d Nowhere = Nowhere
-break_moves d (At k p) = At k (d + p)
+break_moves d None = None
+break_moves d (Some r) = at r.reason (d + r.place)
 
 first_moves : (d : ℕ) (a b : Break) → first_of (break_moves d a) (break_moves d b) ≡ break_moves d (first_of a b)
-first_moves d Nowhere b = refl
-first_moves d (At k p) b = refl
+first_moves d None b = refl
+first_moves d (Some r) b = refl
 
 item_break_moves : (d end : ℕ) (a : Item) (p : ℕ) → item_break end (a, d + p) ≡ break_moves d (item_break end (a, p))
 unfolding span_break
@@ -161,7 +163,7 @@ item_break_moves d end (Weekdays r) p = refl
 item_break_moves d end (Holidays r) p = refl
 item_break_moves d end (Times x) p = go (allowed x) (in_order end x)
   where
-    go : (a b : Bool) → (if a then (if b then Nowhere else At house_order (d + p)) else At house_form (d + p)) ≡ break_moves d (if a then (if b then Nowhere else At house_order p) else At house_form p)
+    go : (a b : Bool) → (if a then (if b then None else at HouseOrder (d + p)) else at HouseForm (d + p)) ≡ break_moves d (if a then (if b then None else at HouseOrder p) else at HouseForm p)
     go true true = refl
     go true false = refl
     go false b = refl
@@ -175,7 +177,7 @@ separator_break_moves : (d k p : ℕ) → separator_break k (d + p) ≡ break_mo
 unfolding separator_break
 separator_break_moves d k p = go (eqb k 0)
   where
-    go : (a : Bool) → (if a then Nowhere else At house_form (d + p)) ≡ break_moves d (if a then Nowhere else At house_form p)
+    go : (a : Bool) → (if a then None else at HouseForm (d + p)) ≡ break_moves d (if a then None else at HouseForm p)
     go true = refl
     go false = refl
 
@@ -193,8 +195,8 @@ judged_break_moves Second d b = refl
 judged_break_moves House d b = refl
 
 settled_moves : (d : ℕ) (l : List Rule × Unit {0}) (j : ℕ) (b : Break) → settled (rules_move d l) (d + j) (break_moves d b) ≡ moved rules_move d (settled l j b)
-settled_moves d l j Nowhere = refl
-settled_moves d l j (At k p) = refl
+settled_moves d l j None = refl
+settled_moves d l j (Some r) = refl
 
 -- what was read and moves is judged so
 judged_moves : (m : Manner) (d : ℕ) (x : Rules) → judged m (moved rules_move d x) ≡ moved rules_move d (judged m x)

@@ -1,8 +1,7 @@
 -- No second answer meets the promise of a user's call, for each of the twenty-four: two that meet it are one.
 use Prim.Native.Nat.{ℕ}
-use mathlib.Core.Bool.{Bool}
 use mathlib.Core.List.{List}
-use mathlib.Core.Path.{◌≡◌, sym, ap, ◌∙◌}
+use mathlib.Core.Path.{◌≡◌, sym, ◌∙◌}
 use lib.IntN.{ℤ}
 use Rattle.names.specs.declared.Manner.{Manner}
 use Rattle.sheet.specs.Sheets.{sheet_reading_by, sheet_reading_bytes_by}
@@ -11,6 +10,7 @@ use Rattle.notes.specs.Notes.{Bytes, CutFrom, note_part, numbers_of, note_of}
 use Rattle.sheet.specs.declared.Answer.{Answer}
 use Rattle.sheet.specs.declared.PartAnswer.{PartAnswer}
 use Rattle.notes.specs.declared.NotePart.{NotePart}
+use Rattle.notes.proofs.Noted.{same_part}
 use Rattle.calls.specs.Editions.{sheet_reading_in, sheet_reading_bytes_in, part_reading_in, part_reading_bytes_in}
 use Rattle.feed.specs.Feeds.{feed_reading, feed_reading_bytes}
 use Rattle.feed.specs.declared.FeedAnswer.{FeedAnswer}
@@ -39,7 +39,7 @@ part_bytes_one_answer m s p t = one
 
 -- note_part: each of its three numbers
 pub note_part_one_answer : (sheet note : ℕ) (a n : ℤ) {x y : NotePart} → numbers_of x ≡ note_part sheet note a n → numbers_of y ≡ note_part sheet note a n → x ≡ y
-note_part_one_answer sheet note a n d e = ap (λ (x : Bool × (ℕ × ℕ)). record { sheets = x.0; from = x.1.0; to = x.1.1 }) (one d e)
+note_part_one_answer sheet note a n {x} {y} d e = same_part x y (one d e)
 
 -- note: where its bytes stand, and the bytes
 pub note_one_answer : (sheet note : Bytes) (a n : ℤ) {place place' : ℕ × ℕ} {bytes bytes' : List ℕ} →

@@ -1,4 +1,5 @@
 -- A refusal leaves everything as it was, for each of the eighteen calls that read: whatever meets its promise, with a number other than 0.
+use Rattle.std.specs.Prelude.{None, Option, Some}
 use Prim.Native.Nat.{ℕ, suc, ◌/◌}
 use mathlib.Core.List.{List, [], ◌∷◌}
 use mathlib.Core.Bool.{true, false}
@@ -18,8 +19,6 @@ use Rattle.sheet.specs.PartReadings.{part_answer_of, with_next, part_to, part_re
 use Rattle.sheet.specs.declared.Answer.{Answer}
 use Rattle.sheet.specs.declared.PartAnswer.{PartAnswer}
 use Rattle.calls.specs.Editions.{edition_of, in_edition, sheet_reading_in, sheet_reading_bytes_in, part_reading_in, part_reading_bytes_in}
-use Rattle.calls.specs.declared.Edition.{Edition}
-use Rattle.calls.specs.declared.Edition.TheVariants.{Known, Unknown}
 use Rattle.c_calls.specs.Calls.{sheet_call_by, sheet_call_in, part_call_by, part_call_in}
 use Rattle.demands.specs.Untouched.{Untouched}
 use Rattle.names.proofs.Laws.{either}
@@ -114,14 +113,14 @@ Leaves t r = Untouched r.0.number r.0.records r.0.warnings t r.1
 abbrev LeavesPart : {A : Type 0} → List A → PartAnswer × List A → Type 0
 LeavesPart t r = Untouched r.0.number r.0.records r.0.warnings t r.1
 
-sheet_leaves : {A : Type 0} (t : List A) (read : Manner → Answer × List A) → ((m : Manner) → Leaves t (read m)) → (e : Edition) → Leaves t (in_edition e read ((refusal unknown_edition 0).0, t))
-sheet_leaves t read h (Known m) = h m
-sheet_leaves t read h Unknown = λ x. (refl, refl, refl)
+sheet_leaves : {A : Type 0} (t : List A) (read : Manner → Answer × List A) → ((m : Manner) → Leaves t (read m)) → (e : Option Manner) → Leaves t (in_edition e read ((refusal unknown_edition 0).0, t))
+sheet_leaves t read h (Some m) = h m
+sheet_leaves t read h None = λ x. (refl, refl, refl)
 
-part_leaves : {A : Type 0} (t : List A) (read : Manner → PartAnswer × List A) → ((m : Manner) → LeavesPart t (read m)) → (e : Edition) →
+part_leaves : {A : Type 0} (t : List A) (read : Manner → PartAnswer × List A) → ((m : Manner) → LeavesPart t (read m)) → (e : Option Manner) →
     LeavesPart t (in_edition e read ((part_refusal unknown_edition).0, t))
-part_leaves t read h (Known m) = h m
-part_leaves t read h Unknown = λ x. (refl, refl, refl)
+part_leaves t read h (Some m) = h m
+part_leaves t read h None = λ x. (refl, refl, refl)
 
 module _ (edition : ℕ) (s : List ℕ) where
   -- a sheet into a table of words

@@ -1,4 +1,5 @@
 -- The parts of a sheet and the sheet: where the table holds everything, the sheet is accepted exactly when every part is, with their records in order.
+use Rattle.std.specs.Prelude.{None, Some}
 use Rattle.std.specs.Prelude.{if◌then◌else◌}
 use Prim.Native.Nat.{ℕ, zero, suc, ◌+◌, ◌≤◌, ◌<◌, ◌/◌}
 use mathlib.Core.List.{List, [], ◌∷◌, ◌++◌, append-nil, append_assoc}
@@ -16,8 +17,8 @@ use Rattle.names.specs.declared.Manner.{Manner}
 use Rattle.names.specs.Read.{Read, got, none, refused}
 use Rattle.rules.specs.Rules.{Rule}
 use Rattle.house.specs.Breaks.{first_of, rules_break, judged_by}
-use Rattle.house.specs.declared.Break.{Break}
-use Rattle.house.specs.declared.Break.TheVariants.{Nowhere, At}
+use Rattle.house.specs.Spans.{Break}
+use Rattle.names.specs.Refusals.{number}
 use Rattle.text_rules.specs.Texts.{rules, judged_rules, rule_records, records, warnings}
 use Rattle.sheet.specs.Sheets.{answer_of, refusal, judged_text, text_of, sheet_by}
 use Rattle.parts.specs.Parts.{part_end, begins, places}
@@ -115,9 +116,9 @@ module _ (m : Manner) (p q n : ℕ) where
   -- both are read: the first break of both is that of the first, or else of the second
   two_read : (l k : List Rule × Unit {0}) (i j : ℕ) (a b : Break) → Numbered m (settled l i a) → Numbered m (settled k j b) →
       Two n (judged_text p n (settled l i a)) (judged_text q n (settled k j b)) (judged_text p n (settled (l.0 ++ k.0, tt) j (first_of a b)))
-  two_read l k i j Nowhere Nowhere f g = rw (warnings_append l.0 k.0, records_append l.0 k.0) (two_kept n p q p (records l.0) (records k.0) (warnings l.0) (warnings k.0))
-  two_read l k i j Nowhere (At e o) f g = two_refused n (judged_text p n (got l i)) (refusal e o) (refusal e o) (λ a b c. omega (arith, number_positive m g)) (number_positive m g)
-  two_read l k i j (At e o) b f g = two_refused n (refusal e o) (judged_text q n (settled k j b)) (refusal e o) (λ a b c. omega (arith, number_positive m f)) (number_positive m f)
+  two_read l k i j None None f g = rw (warnings_append l.0 k.0, records_append l.0 k.0) (two_kept n p q p (records l.0) (records k.0) (warnings l.0) (warnings k.0))
+  two_read l k i j None (Some r) f g = two_refused n (judged_text p n (got l i)) (refusal (number r.reason) r.place) (refusal (number r.reason) r.place) (λ a b c. omega (arith, number_positive m g)) (number_positive m g)
+  two_read l k i j (Some r) b f g = two_refused n (refusal (number r.reason) r.place) (judged_text q n (settled k j b)) (refusal (number r.reason) r.place) (λ a b c. omega (arith, number_positive m f)) (number_positive m f)
 
   two_judged : (x y : Rules) → Numbered m x → Numbered m y → Two n (judged_text p n (judged m x)) (judged_text q n (judged m y)) (judged_text p n (judged m (joined x y)))
   two_judged (got l i) (got k j) f g =

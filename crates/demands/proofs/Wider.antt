@@ -1,4 +1,5 @@
 -- Two readings of one place, by the first edition and by the second: they find the same, or the first is lost.
+use Rattle.std.specs.Prelude.{Err, Ok}
 use Rattle.std.specs.Prelude.{if◌then◌else◌}
 use Prim.Native.Nat.{ℕ, suc, ◌≤◌}
 use mathlib.Core.Bool.{Bool, true, false, ◌&&◌, not}
@@ -15,14 +16,13 @@ use Rattle.names.specs.Chain.{skip}
 use Rattle.names.specs.Texts.{byte, blank, blanks}
 use Rattle.names.specs.Names.{weekday}
 use Rattle.names.specs.Spellings.{named}
-use Rattle.names.specs.Refusals.{range}
+use Rattle.names.specs.declared.refusals.Reason.TheVariants.{Range}
 use Rattle.names.specs.declared.Manner.TheVariants.{First, Second}
 use Rattle.names.proofs.Laws.{one_is}
 use Rattle.names.proofs.Skips.{skip_sure}
 use Rattle.records.specs.Items.{judged}
 use Rattle.records.specs.declared.Item.{Item}
-use Rattle.records.specs.declared.Meant.{Meant}
-use Rattle.records.specs.declared.Meant.TheVariants.{Is, Refused}
+use Rattle.records.specs.Items.{Meant}
 use Rattle.times.specs.Meanings.{good_span, span_of, span_meaning}
 use Rattle.times.specs.Spans.{span_shape, time_item}
 use Rattle.times.specs.Shapes.{RawSpan, Alone, Open, Until}
@@ -159,8 +159,8 @@ module _ (s : List ℕ) where
 
   -- a judgement reads nothing: a dead place stays one
   judged_dead : (p j : ℕ) (x : Meant) → Dead s j → Lost DeadAfter (judged p x s j)
-  judged_dead p j (Is a) d = d
-  judged_dead p j (Refused k) d = tt
+  judged_dead p j (Ok a) d = d
+  judged_dead p j (Err k) d = tt
 
   shape_wide : (i : ℕ) → Wide DeadAfter (weekday_shape First s i) (weekday_shape Second s i)
   unfolding weekday_shape
@@ -179,7 +179,7 @@ module _ (s : List ℕ) where
   unfolding span_meaning
   span_wide p j r = go (good_span r) r
     where
-      go : (b : Bool) (r : RawSpan) → Wide Never (judged p (if not b then Refused range else span_of First r) s j) (judged p (if not b then Refused range else span_of Second r) s j)
+      go : (b : Bool) (r : RawSpan) → Wide Never (judged p (if not b then Err Range else span_of First r) s j) (judged p (if not b then Err Range else span_of Second r) s j)
       go false r = same
       go true (Alone t) = lost tt
       go true (Open t) = same

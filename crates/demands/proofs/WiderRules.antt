@@ -1,4 +1,5 @@
 -- The rules of a text, by the first edition and by the second: after a place where it reads nothing more, the first refuses the text.
+use Rattle.std.specs.Prelude.{None, Option, Some}
 use Prim.Native.Nat.{ℕ, zero, suc, ◌-◌, ◌<◌}
 use mathlib.Core.Bool.{Bool, true, false, ◌&&◌}
 use mathlib.Core.List.{List, [], ◌∷◌}
@@ -37,8 +38,6 @@ use Rattle.rules.specs.Rows.{small, first, listed, following, is_wide}
 use Rattle.rules.specs.Pieces.{item_from, goes_on, after_colon, colon_sign, colon, more, plain_end, end}
 use Rattle.rules.specs.Rules.{opening, Rule, rule_of, after_opening, rule}
 use Rattle.rules.specs.Separators.{comma_blank, bars, separator, next}
-use Rattle.rules.specs.declared.Next.{Next}
-use Rattle.rules.specs.declared.Next.TheVariants.{Another, Finished}
 use Rattle.rules.specs.declared.Stage.{Stage}
 use Rattle.rules.specs.declared.Stage.TheVariants.{Beginning, Always, Colon, After}
 use Rattle.rules.proofs.Cut.{more_local}
@@ -245,19 +244,19 @@ module _ (s : List ℕ) where
   parted_wide : (separator i : ℕ) → Wide Never (parted First separator s i) (parted Second separator s i)
   unfolding parted
   parted_wide separator i =
-      let after : Rule → Reader (Rule × Next) = λ r. after_rule r in
+      let after : Rule → Reader (Rule × Option ℕ) = λ r. after_rule r in
       wide_branch (DeadAfter s) Never s i after after nothing nothing (rule_wide separator i) (λ r j e. same) (λ r j e d. dead_after r j d) same
 
-  step_wide : (x : Next) (i : ℕ) → Wide Never (more_rules First x s i) (more_rules Second x s i)
+  step_wide : (x : Option ℕ) (i : ℕ) → Wide Never (more_rules First x s i) (more_rules Second x s i)
   unfolding more_rules
-  step_wide (Another separator) i = wide_then Never s i (λ _. parted First separator) (λ _. parted Second separator) (blanks s i) (λ _ j e. parted_wide separator j)
-  step_wide Finished i = same
+  step_wide (Some separator) i = wide_then Never s i (λ _. parted First separator) (λ _. parted Second separator) (blanks s i) (λ _ j e. parted_wide separator j)
+  step_wide None i = same
 
-  chain_wide : (n : ℕ) (x : Next) (i : ℕ) → Wide Never (chain_in n (more_rules First) no_more x s i) (chain_in n (more_rules Second) no_more x s i)
+  chain_wide : (n : ℕ) (x : Option ℕ) (i : ℕ) → Wide Never (chain_in n (more_rules First) no_more x s i) (chain_in n (more_rules Second) no_more x s i)
   unfolding chain_in
   chain_wide zero x i = same
   chain_wide (suc n) x i =
-      let later : Manner → Rule × Next → Reader (List Rule × Unit {0}) = λ m a. map (before a.0) (chain_in n (more_rules m) no_more a.1) in
+      let later : Manner → Rule × Option ℕ → Reader (List Rule × Unit {0}) = λ m a. map (before a.0) (chain_in n (more_rules m) no_more a.1) in
       let done = map last (no_more x) in
       wide_branch Never Never s i (later First) (later Second) done done (step_wide x i)
       (λ a j e. wide_map Never Never s j (before a.0) (chain_wide n a.1 j) (λ r k d. d))
@@ -267,4 +266,4 @@ module _ (s : List ℕ) where
   -- the second edition reads the rules that the first does, or the first refuses them
   pub rules_wide : (p : ℕ) → Wide Never (rules First s p) (rules Second s p)
   unfolding rules chain
-  rules_wide p = chain_wide (suc (length s)) (Another 0) p
+  rules_wide p = chain_wide (suc (length s)) (Some 0) p

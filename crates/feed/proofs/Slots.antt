@@ -39,12 +39,6 @@ module _ {A : Type 0} where
   sets_after [] p q i = refl
   sets_after (v ∷ w) p q i = let e : suc (length p + i) ≡ length p + suc i = omega arith in rw (set_after p q i v, e) (sets_after w p (set q i v) (suc i))
 
--- the bytes of four words, word after word
-pub four_words : (t : List ℕ) (p w x y z : ℕ) →
-    sets (sets (sets (sets t p (little_endian w)) (p + 4) (little_endian x)) (p + 8) (little_endian y)) (p + 12) (little_endian z) ≡ sets t p (record_bytes (pos w ∷ pos x ∷ pos y ∷ pos z ∷ []))
-unfolding record_bytes little_endian
-four_words t p w x y z = let e : p + 12 ≡ p + 8 + 4 = omega arith in rw e (simp towards_suc)
-
 -- ---- in the slots of one table
 
 module _ {A : Type 0} (d : Layout A) where

@@ -11,7 +11,7 @@ use crate::lines::{after_line, line_end, lines_in};
 use names::Manner;
 use sheet::{Answer, sheet_into};
 
-// The answer table has fewer places than the feed has lines.
+// The answer table has fewer places than the feed has lines. (The only refusal of a feed: it stays the number that C gets.)
 const FEW_PLACES: u8 = 14;
 
 // Where a table of so many cells is free from a slot on: at the slot, or, where it has no such slot, at its end.
@@ -55,6 +55,7 @@ fn lines_into(
 {
     let mut n: usize = 0;
     let mut records: usize = 0;
+    // A step goes on by a line: no range counts it.
     let mut at: usize = 0;
     while at < feed.len() {
         let e = line_end(feed, at);
@@ -111,7 +112,7 @@ pub fn read_feed(feed: &[u8], answers: &mut [i32], table: &mut [i32]) -> FeedAns
     )
 }
 
-// The same of tables of bytes.
+// The same of tables of bytes. (Two of one shape: a feed is read into both kinds of tables, and each of the two lends its own.)
 pub fn read_feed_bytes(feed: &[u8], answers: &mut [u8], table: &mut [u8]) -> FeedAnswer
     ensures { (result, (answers.new, table.new)) ≡ feeds.feed_reading_bytes feed.now answers.old table.old }
 {

@@ -7,7 +7,7 @@ mod lines;
 
 pub use feeds::{read_feed, read_feed_bytes};
 
-// What reading a feed answers.
+// What reading a feed answers: its numbers, as C's callers get them.
 #[derive(Clone, Copy)]
 pub struct FeedAnswer {
     pub number: u8,

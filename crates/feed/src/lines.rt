@@ -11,14 +11,12 @@ pub fn line_end(feed: &[u8], at: usize) -> usize
     requires { at ≤ length feed.now }
     ensures { result ≡ into.line_end feed.now at }
 {
-    let mut e = at;
-    while e < feed.len() {
+    for e in at..feed.len() {
         if feed[e] == LINE_FEED {
             return e;
         }
-        e += 1;
     }
-    e
+    feed.len()
 }
 
 // The place after a line that ends at e: after its byte 10, where it has one.
@@ -32,6 +30,7 @@ pub fn after_line(feed: &[u8], e: usize) -> usize
 pub fn lines_in(feed: &[u8]) -> usize
     ensures { result ≡ length (lines.lines feed.now) }
 {
+    // A step goes on by a line: no range counts it.
     let mut n: usize = 0;
     let mut at: usize = 0;
     while at < feed.len() {

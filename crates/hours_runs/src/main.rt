@@ -2,26 +2,9 @@
 // Its file `stdout` is the second reader's, not its own: python3 tools/reference.py sheets crates/hours_runs/stdin
 #![tactic(auto)]
 
-ghost use Rattle.std.specs.Prelude.{◌≤◌, length};
-
 use outputs::{MOST, output};
 use prints::read_full;
 use std::io::Error;
-
-// The place of the first byte 10 from a place on, or the end.
-fn line_end(s: &[u8], from: usize) -> usize
-    requires { from ≤ length s.now }
-    ensures { (from ≤ result) × (result ≤ length s.now) }
-{
-    let mut i = from;
-    while i < s.len() {
-        if s[i] == b'\n' {
-            return i;
-        }
-        i += 1;
-    }
-    s.len()
-}
 
 // A sheet.
 fn run(rt: &impl Print, sheet: &[u8]) -> Result<(), Error> {
@@ -32,11 +15,8 @@ fn run(rt: &impl Print, sheet: &[u8]) -> Result<(), Error> {
 
 // Each sheet.
 fn run_all(rt: &impl Print, sheets: &[u8]) -> Result<(), Error> {
-    let mut at = 0;
-    while at <= sheets.len() {
-        let end = line_end(sheets, at);
-        run(rt, &sheets[at..end])?;
-        at = end + 1;
+    for sheet in sheets.split(|b| *b == b'\n') {
+        run(rt, sheet)?;
     }
     Ok(())
 }

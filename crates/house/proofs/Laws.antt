@@ -12,21 +12,20 @@ use Rattle.records.specs.declared.Item.TheVariants.{Years, Months, Dates, Weeks,
 use Rattle.records.specs.declared.Span.{Span}
 use Rattle.records.specs.Words.{Placed}
 use Rattle.rules.specs.Rules.{Rule}
-use Rattle.house.specs.Spans.{is_clock, minutes}
+use Rattle.std.specs.Prelude.{Some, None}
+use Rattle.house.specs.Spans.{Break, is_clock, minutes}
 use Rattle.house.specs.Breaks.{first_of, item_break, end_with, items_break, separator_break, rule_break, judged_by, begun, with_house_item, with_item, with_items}
-use Rattle.house.specs.declared.Break.{Break}
-use Rattle.house.specs.declared.Break.TheVariants.{Nowhere, At}
 use Rattle.house.specs.declared.Judgement.{Judgement}
 
 -- no later break
-pub first_none : (b : Break) → first_of b Nowhere ≡ b
-first_none Nowhere = refl
-first_none (At k p) = refl
+pub first_none : (b : Break) → first_of b None ≡ b
+first_none None = refl
+first_none (Some r) = refl
 
 -- of three, in any grouping
 pub first_assoc : (a b c : Break) → first_of (first_of a b) c ≡ first_of a (first_of b c)
-first_assoc Nowhere b c = refl
-first_assoc (At k p) b c = refl
+first_assoc None b c = refl
+first_assoc (Some r) b c = refl
 
 -- an event is no clock time, and has no minutes of the clock
 pub event_is : (t : Time) → ((m : ℕ) → t ≡ Fixed m → ⊥) → (false ≡ is_clock t) × (0 ≡ minutes t)
@@ -37,8 +36,8 @@ event_is (Sunrise m) k = (refl, refl)
 event_is (Sunset m) k = (refl, refl)
 event_is (Dusk m) k = (refl, refl)
 
--- made of its fields, a judgement with no later break is the same
-pub same : (h : Judgement) → h ≡ record { first = first_of h.first Nowhere; end = h.end }
+-- a judgement with no later break is the same
+pub same : (h : Judgement) → h ≡ record { first = first_of h.first None; end = h.end }
 same h = rw (first_none h.first)
 
 -- items that are no times change nothing, in any manner
@@ -54,7 +53,7 @@ other_item House h (Holidays r) p k = same h
 other_item House h (Times x) p k = absurd (k x refl)
 
 -- where nothing breaks, nothing is judged to
-pub judged_none : (m : Manner) → judged_by m Nowhere ≡ Nowhere
+pub judged_none : (m : Manner) → judged_by m None ≡ None
 judged_none First = refl
 judged_none Second = refl
 judged_none House = refl

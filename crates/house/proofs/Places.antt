@@ -4,23 +4,23 @@ use Prim.Native.Nat.{ℕ}
 use mathlib.Core.Bool.{Bool, true, false}
 use mathlib.Core.List.{List, [], ◌∷◌}
 use lib.Dec.{eqb}
-use Rattle.names.specs.Refusals.{house_form, house_order}
+use Rattle.std.specs.Prelude.{Some, None}
+use Rattle.names.specs.Refusals.{house_form, house_order, number}
+use Rattle.names.specs.declared.refusals.Reason.TheVariants.{HouseForm, HouseOrder}
 use Rattle.names.specs.declared.Manner.{Manner}
 use Rattle.names.specs.declared.Manner.TheVariants.{First, Second, House}
 use Rattle.records.specs.declared.Item.{Item}
 use Rattle.records.specs.declared.Item.TheVariants.{Years, Months, Dates, Weeks, Weekdays, Holidays, Times}
 use Rattle.records.specs.Words.{Placed}
 use Rattle.rules.specs.Rules.{Rule}
-use Rattle.house.specs.Spans.{allowed, in_order, span_break}
+use Rattle.house.specs.Spans.{Break, at, allowed, in_order, span_break}
 use Rattle.house.specs.Breaks.{first_of, item_break, end_with, items_break, separator_break, rule_break, rules_break, judged_by}
 use Rattle.house.specs.Profile.{Each}
-use Rattle.house.specs.declared.Break.{Break}
-use Rattle.house.specs.declared.Break.TheVariants.{Nowhere, At}
 
 -- the number and the place of a break are so
 abbrev pub Broken : (ℕ → ℕ → Type 0) → Break → Type 0
-Broken P Nowhere = Unit {0}
-Broken P (At k p) = P k p
+Broken P None = Unit {0}
+Broken P (Some r) = P (number r.reason) r.place
 
 module _ (P : ℕ → ℕ → Type 0) where
   -- what is so of an item's two breaks, and of a rule's
@@ -31,8 +31,8 @@ module _ (P : ℕ → ℕ → Type 0) where
   OfRule r = P house_form r.0.place × Each OfItem r.1
 
   first_broken : (a b : Break) → Broken P a → Broken P b → Broken P (first_of a b)
-  first_broken Nowhere b h k = k
-  first_broken (At n p) b h k = h
+  first_broken None b h k = k
+  first_broken (Some r) b h k = h
 
   item_broken : (end : ℕ) (a : Item) (p : ℕ) → OfItem (a, p) → Broken P (item_break end (a, p))
   unfolding span_break
@@ -44,7 +44,7 @@ module _ (P : ℕ → ℕ → Type 0) where
   item_broken end (Holidays r) p h = tt
   item_broken end (Times x) p h = go (allowed x) (in_order end x)
     where
-      go : (a b : Bool) → Broken P (if a then (if b then Nowhere else At house_order p) else At house_form p)
+      go : (a b : Bool) → Broken P (if a then (if b then None else at HouseOrder p) else at HouseForm p)
       go true true = tt
       go true false = h.1
       go false b = h.0
@@ -58,7 +58,7 @@ module _ (P : ℕ → ℕ → Type 0) where
   unfolding separator_break
   rule_broken r h = first_broken (separator_break r.0.separator r.0.place) (items_break 0 r.1) (go (eqb r.0.separator 0)) (items_broken r.1 0 h.1)
     where
-      go : (a : Bool) → Broken P (if a then Nowhere else At house_form r.0.place)
+      go : (a : Bool) → Broken P (if a then None else at HouseForm r.0.place)
       go true = tt
       go false = h.0
 

@@ -1,5 +1,6 @@
 -- The judgement finds no break exactly where every rule breaks none of the profile's sentences.
-use Rattle.std.specs.Prelude.{if◌then◌else◌}
+use Rattle.std.specs.Prelude.{Option, Some, None, if◌then◌else◌}
+use Rattle.names.specs.declared.refusals.Reason.TheVariants.{HouseForm, HouseOrder}
 use Prim.Native.Nat.{ℕ, ◌≤◌}
 use mathlib.Core.Bool.{Bool, true, false, ◌&&◌, not, true≢false}
 use mathlib.Core.List.{List, [], ◌∷◌}
@@ -9,17 +10,13 @@ use lib.Dec.{ltb, leb, eqb}
 use borrow.Author.Tests.{lt-ltb, le-leb, ltb-true, leb-true, eqb-true}
 use Rattle.records.specs.declared.Time.{Time}
 use Rattle.records.specs.declared.Time.TheVariants.{Fixed, Dawn, Sunrise, Sunset, Dusk}
-use Rattle.records.specs.declared.Repeat.{Repeat}
-use Rattle.records.specs.declared.Repeat.TheVariants.{Never, Every}
 use Rattle.records.specs.declared.Span.{Span}
 use Rattle.records.specs.declared.Item.TheVariants.{Years, Months, Dates, Weeks, Weekdays, Holidays, Times}
 use Rattle.records.specs.Words.{Placed}
 use Rattle.rules.specs.Rules.{Rule}
-use Rattle.house.specs.Spans.{is_clock, minutes, is_never, of_clocks, is_plain, allowed, in_order, span_break}
+use Rattle.house.specs.Spans.{Break, at, is_clock, minutes, is_never, of_clocks, is_plain, allowed, in_order, span_break}
 use Rattle.house.specs.Breaks.{first_of, items_break, separator_break, rule_break, rules_break}
 use Rattle.house.specs.Profile.{Each, Spanned, Clock, Form, Forward, After, Rising, Keeps, Exactly}
-use Rattle.house.specs.declared.Break.{Break}
-use Rattle.house.specs.declared.Break.TheVariants.{Nowhere, At}
 
 -- ---- tests and what they say
 
@@ -44,10 +41,9 @@ is_clock_lem (Sunrise m) h = absurd h
 is_clock_lem (Sunset m) h = absurd h
 is_clock_lem (Dusk m) h = absurd h
 
-never_is : (r : Repeat) → is_never r ≡ true → r ≡ Never
-unfolding is_never
-never_is Never e = refl
-never_is (Every m) e = absurd (true≢false (sym e))
+never_is : (r : Option ℕ) → is_never r ≡ true → r ≡ None
+never_is None e = refl
+never_is (Some m) e = absurd (true≢false (sym e))
 
 closed_is : (b : Bool) → not b ≡ true → b ≡ false
 closed_is true e = absurd (true≢false (sym e))
@@ -62,7 +58,7 @@ form_is x e =
     record { start = clock_is x.start c.0; end = clock_is x.end c.1; once = never_is x.repeats p.0; closed = closed_is x.open_end p.1 }
 
 is_form : (x : Span) → Form x → allowed x ≡ true
-unfolding of_clocks is_plain is_never
+unfolding of_clocks is_plain
 is_form x f = rw (is_clock_lem x.start f.start, is_clock_lem x.end f.end, f.once, f.closed)
 
 order_is : (end : ℕ) (x : Span) → in_order end x ≡ true → Forward x × After end x
@@ -76,19 +72,19 @@ is_order end x f a = rw (lt-ltb _ _ f, le-leb _ _ a)
 -- ---- breaks
 
 -- no break of two: none of either
-neither : (a b : Break) → first_of a b ≡ Nowhere → (a ≡ Nowhere) × (b ≡ Nowhere)
-neither Nowhere b e = (refl, e)
-neither (At k p) b e = absurd (let z : ◌≡◌ {A = ℕ} 0 1 = cc in omega arith)
+neither : (a b : Break) → first_of a b ≡ None → (a ≡ None) × (b ≡ None)
+neither None b e = (refl, e)
+neither (Some r) b e = cc
 
 -- a span's
-span_none : (end p : ℕ) (x : Span) → span_break end p x ≡ Nowhere → (allowed x ≡ true) × (in_order end x ≡ true)
+span_none : (end p : ℕ) (x : Span) → span_break end p x ≡ None → (allowed x ≡ true) × (in_order end x ≡ true)
 unfolding span_break
 span_none end p x e = go (allowed x) (in_order end x) e
   where
-    go : (a b : Bool) → (if a then (if b then Nowhere else At 23 p) else At 22 p) ≡ Nowhere → (a ≡ true) × (b ≡ true)
+    go : (a b : Bool) → (if a then (if b then None else at HouseOrder p) else at HouseForm p) ≡ None → (a ≡ true) × (b ≡ true)
     go true true e = (refl, refl)
-    go true false e = absurd (let z : ◌≡◌ {A = ℕ} 0 1 = cc in omega arith)
-    go false b e = absurd (let z : ◌≡◌ {A = ℕ} 0 1 = cc in omega arith)
+    go true false e = cc
+    go false b e = cc
 
 -- ---- items
 
@@ -122,7 +118,7 @@ after_zero ((Holidays r, p) ∷ l) = (tt, after_zero l)
 after_zero ((Times x, p) ∷ l) = (omega arith, after_zero l)
 
 -- with a span more
-good_span_lem : (end p : ℕ) (x : Span) (l : List Placed) → span_break end p x ≡ Nowhere → Good (minutes x.end) l → Good end ((Times x, p) ∷ l)
+good_span_lem : (end p : ℕ) (x : Span) (l : List Placed) → span_break end p x ≡ None → Good (minutes x.end) l → Good end ((Times x, p) ∷ l)
 good_span_lem end p x l e g =
     let b = span_none end p x e in
     let o = order_is end x b.1 in
@@ -133,7 +129,7 @@ good_span_lem end p x l e g =
       rising = (g.after, g.rising);
     }
 
-items_good : (l : List Placed) (end : ℕ) → items_break end l ≡ Nowhere → Good end l
+items_good : (l : List Placed) (end : ℕ) → items_break end l ≡ None → Good end l
 unfolding items_break
 items_good [] end e = record { form = tt; forward = tt; after = tt; rising = tt }
 items_good ((Years r, p) ∷ l) end e = let g = items_good l end e in record { form = (tt, g.form); forward = (tt, g.forward); after = (tt, g.after); rising = (tt, g.rising) }
@@ -144,7 +140,7 @@ items_good ((Weekdays r, p) ∷ l) end e = let g = items_good l end e in record 
 items_good ((Holidays r, p) ∷ l) end e = let g = items_good l end e in record { form = (tt, g.form); forward = (tt, g.forward); after = (tt, g.after); rising = (tt, g.rising) }
 items_good ((Times x, p) ∷ l) end e = let n = neither (span_break end p x) (items_break (minutes x.end) l) e in good_span_lem end p x l n.0 (items_good l (minutes x.end) n.1)
 
-good_items_lem : (l : List Placed) (end : ℕ) → Good end l → items_break end l ≡ Nowhere
+good_items_lem : (l : List Placed) (end : ℕ) → Good end l → items_break end l ≡ None
 unfolding items_break span_break
 good_items_lem [] end g = refl
 good_items_lem ((Years r, p) ∷ l) end g = good_items_lem l end (record { form = g.form.1; forward = g.forward.1; after = g.after.1; rising = g.rising.1 })
@@ -159,30 +155,30 @@ good_items_lem ((Times x, p) ∷ l) end g =
 
 -- ---- rules
 
-separator_none : (k p : ℕ) → separator_break k p ≡ Nowhere → k ≡ 0
+separator_none : (k p : ℕ) → separator_break k p ≡ None → k ≡ 0
 unfolding separator_break
 separator_none k p e = go (eqb k 0) refl e
   where
-    go : (t : Bool) → eqb k 0 ≡ t → (if t then Nowhere else At 22 p) ≡ Nowhere → k ≡ 0
+    go : (t : Bool) → eqb k 0 ≡ t → (if t then None else at HouseForm p) ≡ None → k ≡ 0
     go true h e = eqb-true k 0 h
-    go false h e = absurd (let z : ◌≡◌ {A = ℕ} 0 1 = cc in omega arith)
+    go false h e = cc
 
-rule_keeps : (r : Rule) → rule_break r ≡ Nowhere → Keeps r
+rule_keeps : (r : Rule) → rule_break r ≡ None → Keeps r
 rule_keeps r e =
     let n = neither (separator_break r.0.separator r.0.place) (items_break 0 r.1) e in
     let g = items_good r.1 0 n.1 in
     record { semicolon = separator_none r.0.separator r.0.place n.0; form = g.form; forward = g.forward; rising = g.rising }
 
-keeps_rule : (r : Rule) → Keeps r → rule_break r ≡ Nowhere
+keeps_rule : (r : Rule) → Keeps r → rule_break r ≡ None
 unfolding separator_break
 keeps_rule r k = rw k.semicolon (good_items_lem r.1 0 (record { form = k.form; forward = k.forward; after = after_zero r.1; rising = k.rising }))
 
-rules_keep : (l : List Rule) → rules_break l ≡ Nowhere → Each Keeps l
+rules_keep : (l : List Rule) → rules_break l ≡ None → Each Keeps l
 unfolding rules_break
 rules_keep [] e = tt
 rules_keep (r ∷ l) e = let n = neither (rule_break r) (rules_break l) e in (rule_keeps r n.0, rules_keep l n.1)
 
-keep_rules : (l : List Rule) → Each Keeps l → rules_break l ≡ Nowhere
+keep_rules : (l : List Rule) → Each Keeps l → rules_break l ≡ None
 unfolding rules_break
 keep_rules [] k = refl
 keep_rules (r ∷ l) k = rw (keeps_rule r k.0) (keep_rules l k.1)

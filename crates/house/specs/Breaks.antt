@@ -1,30 +1,28 @@
 -- The first break of rules that were read, leftmost: their places rise (docs/RULES.md, 9).
-use Rattle.std.specs.Prelude.{ℕ, List, [], ◌∷◌, eqb, if◌then◌else◌}
-use Rattle.names.specs.Refusals.{house_form}
+use Rattle.std.specs.Prelude.{ℕ, List, [], ◌∷◌, eqb, Some, None, if◌then◌else◌}
+use Rattle.names.specs.declared.refusals.Reason.TheVariants.{HouseForm}
 use Rattle.names.specs.declared.Manner.{Manner}
 use Rattle.names.specs.declared.Manner.TheVariants.{First, Second, House}
 use Rattle.records.specs.declared.Item.{Item}
 use Rattle.records.specs.declared.Item.TheVariants.{Years, Months, Dates, Weeks, Weekdays, Holidays, Times}
 use Rattle.records.specs.Words.{Placed}
 use Rattle.rules.specs.Rules.{Rule}
-use Rattle.house.specs.Spans.{minutes, span_break}
-use Rattle.house.specs.declared.Break.{Break}
-use Rattle.house.specs.declared.Break.TheVariants.{Nowhere, At}
+use Rattle.house.specs.Spans.{Break, at, minutes, span_break}
 use Rattle.house.specs.declared.Judgement.{Judgement}
 
 -- a break, or else another
 abbrev pub first_of : Break → Break → Break
-first_of Nowhere b = b
-first_of (At k p) b = At k p
+first_of None b = b
+first_of (Some r) b = Some r
 
 -- the break of an item, after spans of its rule that end there: only times are judged
 abbrev pub item_break : ℕ → Placed → Break
-item_break end (Years r, p) = Nowhere
-item_break end (Months r, p) = Nowhere
-item_break end (Dates r, p) = Nowhere
-item_break end (Weeks r, p) = Nowhere
-item_break end (Weekdays r, p) = Nowhere
-item_break end (Holidays r, p) = Nowhere
+item_break end (Years r, p) = None
+item_break end (Months r, p) = None
+item_break end (Dates r, p) = None
+item_break end (Weeks r, p) = None
+item_break end (Weekdays r, p) = None
+item_break end (Holidays r, p) = None
 item_break end (Times x, p) = span_break end p x
 
 -- where the spans end with this item
@@ -39,12 +37,12 @@ end_with end (Times x) = minutes x.end
 
 -- the first break of a rule's items
 unfoldable pub items_break : ℕ → List Placed → Break
-items_break end [] = Nowhere
+items_break end [] = None
 items_break end (a ∷ l) = first_of (item_break end a) (items_break (end_with end a.0) l)
 
 -- a rule that another separator than `;` parts from the one before, at its own place
 unfoldable pub separator_break : ℕ → ℕ → Break
-separator_break separator place = if eqb separator 0 then Nowhere else At house_form place
+separator_break separator place = if eqb separator 0 then None else at HouseForm place
 
 -- the first break of a rule
 abbrev pub rule_break : Rule → Break
@@ -52,13 +50,13 @@ rule_break r = first_of (separator_break r.0.separator r.0.place) (items_break 0
 
 -- the first break of rules
 unfoldable pub rules_break : List Rule → Break
-rules_break [] = Nowhere
+rules_break [] = None
 rules_break (r ∷ l) = first_of (rule_break r) (rules_break l)
 
 -- only a house sheet is judged
 abbrev pub judged_by : Manner → Break → Break
-judged_by First b = Nowhere
-judged_by Second b = Nowhere
+judged_by First b = None
+judged_by Second b = None
 judged_by House b = b
 
 -- ---- what the code knows of a rule, item by item

@@ -1,15 +1,13 @@
 -- The rules of the house profile, a sentence each, and that the judgement says just these (docs/RULES.md, 9).
-use Rattle.std.specs.Prelude.{ℕ, ◌≤◌, ◌<◌, false, List, [], ◌∷◌, ◌≡◌}
+use Rattle.std.specs.Prelude.{ℕ, ◌≤◌, ◌<◌, false, List, [], ◌∷◌, None, ◌≡◌}
 use Rattle.records.specs.declared.Time.{Time}
 use Rattle.records.specs.declared.Time.TheVariants.{Fixed, Dawn, Sunrise, Sunset, Dusk}
-use Rattle.records.specs.declared.Repeat.TheVariants.{Never}
 use Rattle.records.specs.declared.Span.{Span}
 use Rattle.records.specs.declared.Item.TheVariants.{Years, Months, Dates, Weeks, Weekdays, Holidays, Times}
 use Rattle.records.specs.Words.{Placed}
 use Rattle.rules.specs.Rules.{Rule}
 use Rattle.house.specs.Spans.{minutes}
 use Rattle.house.specs.Breaks.{rules_break}
-use Rattle.house.specs.declared.Break.TheVariants.{Nowhere}
 
 -- every one of a list is so
 abbrev pub Each : {A : Type 0} → (A → Type 0) → List A → Type 0
@@ -38,7 +36,7 @@ Clock (Dusk m) = ⊥
 pub record Form (x : Span) : Type 0 where
   pub start : Clock x.start
   pub end : Clock x.end
-  pub once : x.repeats ≡ Never
+  pub once : x.repeats ≡ None
   pub closed : x.open_end ≡ false
 
 -- its end after its start
@@ -63,4 +61,4 @@ pub record Keeps (r : Rule) : Type 0 where
 
 -- the judgement finds no break exactly where every rule breaks none
 abbrev pub Exactly : Type 0
-Exactly = (l : List Rule) → (rules_break l ≡ Nowhere → Each Keeps l) × (Each Keeps l → rules_break l ≡ Nowhere)
+Exactly = (l : List Rule) → (rules_break l ≡ None → Each Keeps l) × (Each Keeps l → rules_break l ≡ None)

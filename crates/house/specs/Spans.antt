@@ -1,13 +1,19 @@
 -- A span: its form, and its order after the earlier ones of its rule (docs/RULES.md, 9).
-use Rattle.std.specs.Prelude.{ℕ, Bool, true, false, ◌&&◌, not, ltb, leb, if◌then◌else◌}
-use Rattle.names.specs.Refusals.{house_form, house_order}
+use Rattle.std.specs.Prelude.{ℕ, Bool, true, false, ◌&&◌, not, ltb, leb, Option, Some, None, if◌then◌else◌}
+use Rattle.std.specs.Option.{is_none}
+use Rattle.names.specs.declared.refusals.Reason.{Reason}
+use Rattle.names.specs.declared.refusals.Reason.TheVariants.{HouseForm, HouseOrder}
+use Rattle.names.specs.declared.refusals.Refusal.{Refusal}
 use Rattle.records.specs.declared.Time.{Time}
 use Rattle.records.specs.declared.Time.TheVariants.{Fixed, Dawn, Sunrise, Sunset, Dusk}
-use Rattle.records.specs.declared.Repeat.{Repeat}
-use Rattle.records.specs.declared.Repeat.TheVariants.{Never, Every}
 use Rattle.records.specs.declared.Span.{Span}
-use Rattle.house.specs.declared.Break.{Break}
-use Rattle.house.specs.declared.Break.TheVariants.{Nowhere, At}
+
+-- a break, at its place, or none
+abbrev pub Break : Type 0
+Break = Option Refusal
+
+abbrev pub at : Reason → ℕ → Break
+at reason place = Some (record { reason = reason; place = place })
 
 -- a clock time up to 24:00
 unfoldable pub is_clock : Time → Bool
@@ -26,9 +32,8 @@ minutes (Sunset m) = 0
 minutes (Dusk m) = 0
 
 -- no repeat
-unfoldable pub is_never : Repeat → Bool
-is_never Never = true
-is_never (Every m) = false
+abbrev pub is_never : Option ℕ → Bool
+is_never = is_none
 
 -- only clock times, up to 24:00
 unfoldable pub of_clocks : Span → Bool
@@ -47,4 +52,4 @@ in_order end x = ltb (minutes x.start) (minutes x.end) && leb end (minutes x.sta
 
 -- the break of a span at a place, after spans of its rule that end there: 22 before 23
 unfoldable pub span_break : ℕ → ℕ → Span → Break
-span_break end place x = if allowed x then (if in_order end x then Nowhere else At house_order place) else At house_form place
+span_break end place x = if allowed x then (if in_order end x then None else at HouseOrder place) else at HouseForm place

@@ -3,30 +3,30 @@ ghost use Rattle.std.specs.Prelude.{◌≡◌};
 ghost use Rattle.records.specs.declared.Item.TheVariants.{Times};
 ghost use Rattle.house.specs.Breaks as breaks;
 
+use crate::Judgement;
 use crate::spans::{minutes, span_break};
-use crate::{Break, Judgement};
-use names::{HOUSE_FORM, Manner};
+use names::{Manner, Reason, Refusal};
 use records::{Item, Span};
 
-// A break, or else another. (It is made of its fields: a copy of the whole costs the editions more.)
-pub fn first_of(a: Break, b: Break) -> Break
+// A break, or else another.
+pub fn first_of(a: Option<Refusal>, b: Option<Refusal>) -> Option<Refusal>
     ensures { result ≡ breaks.first_of a b }
 {
-    match a {
-        Break::Nowhere => b,
-        Break::At(k, p) => Break::At(k, p),
-    }
+    a.or(b)
 }
 
 // The break of a rule's separator, at the rule's place.
-fn separator_break(separator: u8, place: usize) -> Break
+#[tactic(auto, unfolding(crate::specs::Breaks::separator_break))]
+fn separator_break(separator: u8, place: usize) -> Option<Refusal>
     ensures { result ≡ breaks.separator_break separator place }
 {
     if separator == 0 {
-        Break::Nowhere
-    } else {
-        Break::At(HOUSE_FORM, place)
+        return None;
     }
+    Some(Refusal {
+        reason: Reason::HouseForm,
+        place,
+    })
 }
 
 impl Judgement {
@@ -34,40 +34,20 @@ impl Judgement {
     pub fn begun(m: Manner, separator: u8, place: usize) -> Judgement
         ensures { result ≡ breaks.begun m separator place }
     {
-        match m {
-            Manner::House => {
-                let first = separator_break(separator, place);
-                Judgement { first, end: 0 }
-            }
-            _ => Judgement {
-                first: Break::Nowhere,
-                end: 0,
-            },
-        }
+        let first = match m {
+            Manner::House => separator_break(separator, place),
+            _ => None,
+        };
+        Judgement { first, end: 0 }
     }
 
     // With a span more, in a house sheet.
     fn span(self, x: Span, place: usize) -> Judgement
         ensures { result ≡ breaks.with_house_item self (Times x, place) }
     {
-        let before = self.first;
-        let first = first_of(before, span_break(self.end, place, x));
-        let to = x.end;
         Judgement {
-            first,
-            end: minutes(to),
-        }
-    }
-
-    // The same judgement. (It is made of its fields: a copy of the whole costs the editions more.)
-    fn unchanged(self) -> Judgement
-        ensures { result ≡ self }
-    {
-        let before = self.first;
-        let first = first_of(before, Break::Nowhere);
-        Judgement {
-            first,
-            end: self.end,
+            first: first_of(self.first, span_break(self.end, place, x)),
+            end: minutes(x.end),
         }
     }
 
@@ -78,7 +58,7 @@ impl Judgement {
         match a {
             Item::Times(x) => match m {
                 Manner::House => self.span(x, place),
-                _ => self.unchanged(),
+                _ => self,
             },
             _ => self,
         }

@@ -6,17 +6,11 @@ mod breaks;
 mod spans;
 
 pub use breaks::first_of;
+use names::Refusal;
 
-// The first break of these, by its number and place, or nowhere.
-#[derive(Clone, Copy)]
-pub enum Break {
-    Nowhere,
-    At(u8, usize),
-}
-
-// What is known of a rule after some of its items: its first break, and where its spans end.
+// What is known of a rule after some of its items: its first break, if it has one, and where its spans end.
 #[derive(Clone, Copy)]
 pub struct Judgement {
-    pub first: Break,
+    pub first: Option<Refusal>,
     pub end: u16,
 }

@@ -1,7 +1,6 @@
 -- Tests of items as the code makes them, by the size of a number; and weeks' word.
 use Prim.Native.Nat.{ℕ, zero, suc, ◌≤◌}
 use native.Mathlib.Omega.{arith}
-use mathlib.Core.List.{List, ◌∷◌}
 use mathlib.Core.Bool.{Bool, true, false, ◌&&◌, ◌||◌, true≢false}
 use mathlib.Core.Path.{◌≡◌, refl, sym, ◌∙◌}
 use borrow.Author.Tests.{eqb-true, leb-true, le-leb}
@@ -13,14 +12,13 @@ use Rattle.names.proofs.Laws.{within_range, within_true}
 use Rattle.records.specs.declared.Item.{Item}
 use Rattle.records.specs.declared.Item.TheVariants.{Years, Months, Dates, Weeks, Weekdays, Holidays, Times}
 use Rattle.records.specs.declared.Holiday.{Holiday}
-use Rattle.times.specs.Meanings.{near}
+use Rattle.records.specs.declared.WeekRange.{WeekRange}
 use Rattle.dates.specs.Meanings.{good_nth}
-use Rattle.sheet_texts.specs.Names.{written, is_in, letters_in, name}
+use Rattle.sheet_texts.specs.Names.{written, is_in}
 use Rattle.sheet_texts.specs.Days.{good_holiday}
-use Rattle.sheet_texts.specs.Items.{item_text, full, sort}
+use Rattle.sheet_texts.specs.Items.{item_text, full}
 use Rattle.sheet_texts.proofs.Tests.{both}
 use Rattle.sheet_texts.proofs.Named.{same_test, weekday_is, holiday_range}
-use Rattle.item_texts.specs.Joints.{has_word}
 
 or_false : (b : Bool) → (b || false) ≡ b
 or_false true = refl
@@ -37,17 +35,6 @@ nth_is (negsuc n) = same_test (leb n 4 && leb 0 n) (within 1 5 (suc n)) there ba
 
     back : within 1 5 (suc n) ≡ true → (leb n 4 && leb 0 n) ≡ true
     back e = let q = within_range 1 5 (suc n) e in rw (le-leb n 4 (omega (arith, q.1)), le-leb 0 n (omega arith))
-
--- minutes about an event: their size is at most a day's
-pub near_is : (x : ℤ) → near x ≡ leb (nat_abs x) 1440
-near_is (pos n) = refl
-near_is (negsuc n) = same_test (leb n 1439 && true) (leb (suc n) 1440) there back
-  where
-    there : (leb n 1439 && true) ≡ true → leb (suc n) 1440 ≡ true
-    there e = le-leb (suc n) 1440 (omega (arith, leb-true n 1439 (both (leb n 1439) e).0))
-
-    back : leb (suc n) 1440 ≡ true → (leb n 1439 && true) ≡ true
-    back e = rw (le-leb n 1439 (omega (arith, leb-true (suc n) 1440 e)))
 
 -- the weekday of an offset, or none
 pub wday_is : (n : ℕ) → (eqb n 0 || is_in written (weekday, n)) ≡ leb n 7
@@ -69,24 +56,14 @@ wday_is n = same_test (eqb n 0 || is_in written (weekday, n)) (leb n 7) (λ e. g
     back e = at (eqb n 0) refl (leb-true n 7 e)
 
 -- weeks have their word before their first, other items have none
-pub full_word : (a : Item) → has_word (sort a) ≡ true → (v : List ℕ) → full a v ≡ 119 ∷ 101 ∷ 101 ∷ 107 ∷ 32 ∷ item_text a v
-unfolding name letters_in written
-full_word (Years r) e v = absurd (true≢false (sym e))
-full_word (Months r) e v = absurd (true≢false (sym e))
-full_word (Dates r) e v = absurd (true≢false (sym e))
-full_word (Weeks r) e v = refl
-full_word (Weekdays r) e v = absurd (true≢false (sym e))
-full_word (Holidays r) e v = absurd (true≢false (sym e))
-full_word (Times r) e v = absurd (true≢false (sym e))
-
-pub full_plain : (a : Item) → has_word (sort a) ≡ false → (v : List ℕ) → full a v ≡ item_text a v
-full_plain (Years r) e v = refl
-full_plain (Months r) e v = refl
-full_plain (Dates r) e v = refl
-full_plain (Weeks r) e v = absurd (true≢false e)
-full_plain (Weekdays r) e v = refl
-full_plain (Holidays r) e v = refl
-full_plain (Times r) e v = refl
+pub full_plain : (a : Item) → ((r : WeekRange) → a ≡ Weeks r → ⊥) → full a ≡ item_text a
+full_plain (Years r) n = refl
+full_plain (Months r) n = refl
+full_plain (Dates r) n = refl
+full_plain (Weeks r) n = absurd (n r refl)
+full_plain (Weekdays r) n = refl
+full_plain (Holidays r) n = refl
+full_plain (Times r) n = refl
 
 -- a holiday's name is in range
 pub holiday_named : (r : Holiday) → good_holiday r ≡ true → (1 ≤ r.kind) × (r.kind ≤ 2)

@@ -29,13 +29,12 @@ pub enum Sort {
     Times,
 }
 
-// What stands before an item of a sort after one of a kind, and as which kind it is read; or that it may not stand there.
+// What stands before an item of a sort after one of a kind, and as which kind it is read.
 #[derive(Clone, Copy)]
 pub enum Joint {
     Comma(Kind),
     Colon(Kind),
     Blank(Kind),
-    No,
 }
 
 // Whether a sheet can have an item.

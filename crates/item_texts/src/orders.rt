@@ -13,8 +13,7 @@ pub fn sort_of(a: Item) -> Sort
 {
     match a {
         Item::Years(_) => Sort::Years,
-        Item::Months(_) => Sort::MonthDays,
-        Item::Dates(_) => Sort::MonthDays,
+        Item::Months(_) | Item::Dates(_) => Sort::MonthDays,
         Item::Weeks(_) => Sort::Weeks,
         Item::Weekdays(_) => Sort::Weekdays,
         Item::Holidays(_) => Sort::Holidays,
@@ -22,118 +21,36 @@ pub fn sort_of(a: Item) -> Sort
     }
 }
 
-// Years after an item of a kind.
-fn years_after(k: Kind) -> Joint
-    ensures { result ≡ joints.joint_of k 1 }
-{
-    match k {
-        Kind::Years => Joint::Comma(Kind::Years),
-        Kind::MonthDays => Joint::No,
-        Kind::Weeks => Joint::No,
-        Kind::WeekNumbers => Joint::No,
-        Kind::Weekdays => Joint::No,
-        Kind::LastWeekdays => Joint::No,
-        Kind::Holidays => Joint::No,
-        Kind::LastHolidays => Joint::No,
-        Kind::Times => Joint::No,
-    }
-}
-
-// Month days after an item of a kind.
-fn month_days_after(k: Kind) -> Joint
-    ensures { result ≡ joints.joint_of k 2 }
-{
-    match k {
-        Kind::Years => Joint::Blank(Kind::MonthDays),
-        Kind::MonthDays => Joint::Comma(Kind::MonthDays),
-        Kind::Weeks => Joint::No,
-        Kind::WeekNumbers => Joint::No,
-        Kind::Weekdays => Joint::No,
-        Kind::LastWeekdays => Joint::No,
-        Kind::Holidays => Joint::No,
-        Kind::LastHolidays => Joint::No,
-        Kind::Times => Joint::No,
-    }
-}
-
-// Weeks after an item of a kind.
-fn weeks_after(k: Kind) -> Joint
-    ensures { result ≡ joints.joint_of k 3 }
-{
-    match k {
-        Kind::Years => Joint::Blank(Kind::Weeks),
-        Kind::MonthDays => Joint::Blank(Kind::Weeks),
-        Kind::Weeks => Joint::Comma(Kind::WeekNumbers),
-        Kind::WeekNumbers => Joint::Comma(Kind::WeekNumbers),
-        Kind::Weekdays => Joint::No,
-        Kind::LastWeekdays => Joint::No,
-        Kind::Holidays => Joint::No,
-        Kind::LastHolidays => Joint::No,
-        Kind::Times => Joint::No,
-    }
-}
-
-// Weekdays after an item of a kind.
-fn weekdays_after(k: Kind) -> Joint
-    ensures { result ≡ joints.joint_of k 4 }
-{
-    match k {
-        Kind::Years => Joint::Colon(Kind::Weekdays),
-        Kind::MonthDays => Joint::Colon(Kind::Weekdays),
-        Kind::Weeks => Joint::Colon(Kind::Weekdays),
-        Kind::WeekNumbers => Joint::Colon(Kind::Weekdays),
-        Kind::Weekdays => Joint::Comma(Kind::Weekdays),
-        Kind::LastWeekdays => Joint::Comma(Kind::LastWeekdays),
-        Kind::Holidays => Joint::Comma(Kind::LastWeekdays),
-        Kind::LastHolidays => Joint::No,
-        Kind::Times => Joint::No,
-    }
-}
-
-// Holidays after an item of a kind.
-fn holidays_after(k: Kind) -> Joint
-    ensures { result ≡ joints.joint_of k 5 }
-{
-    match k {
-        Kind::Years => Joint::Colon(Kind::Holidays),
-        Kind::MonthDays => Joint::Colon(Kind::Holidays),
-        Kind::Weeks => Joint::Colon(Kind::Holidays),
-        Kind::WeekNumbers => Joint::Colon(Kind::Holidays),
-        Kind::Weekdays => Joint::Comma(Kind::LastHolidays),
-        Kind::LastWeekdays => Joint::No,
-        Kind::Holidays => Joint::Comma(Kind::Holidays),
-        Kind::LastHolidays => Joint::Comma(Kind::LastHolidays),
-        Kind::Times => Joint::No,
-    }
-}
-
-// Times after an item of a kind.
-fn times_after(k: Kind) -> Joint
-    ensures { result ≡ joints.joint_of k 6 }
-{
-    match k {
-        Kind::Years => Joint::Colon(Kind::Times),
-        Kind::MonthDays => Joint::Colon(Kind::Times),
-        Kind::Weeks => Joint::Colon(Kind::Times),
-        Kind::WeekNumbers => Joint::Colon(Kind::Times),
-        Kind::Weekdays => Joint::Blank(Kind::Times),
-        Kind::LastWeekdays => Joint::Blank(Kind::Times),
-        Kind::Holidays => Joint::Blank(Kind::Times),
-        Kind::LastHolidays => Joint::Blank(Kind::Times),
-        Kind::Times => Joint::Comma(Kind::Times),
-    }
-}
-
 // An item of a sort after one of a kind.
-pub fn joint_of(k: Kind, x: Sort) -> Joint
+#[tactic(auto, unfolding(crate::specs::Joints::joint_of, rules::specs::Rows::listed, rules::specs::Rows::following, rules::specs::Rows::is_wide, sheet_texts::specs::Items::has, sheet_texts::specs::Items::kind_in))]
+pub fn joint_of(k: Kind, x: Sort) -> Option<Joint>
     ensures { result ≡ joints.joint_of k (joints.number_of x) }
 {
-    match x {
-        Sort::Years => years_after(k),
-        Sort::MonthDays => month_days_after(k),
-        Sort::Weeks => weeks_after(k),
-        Sort::Weekdays => weekdays_after(k),
-        Sort::Holidays => holidays_after(k),
-        Sort::Times => times_after(k),
+    match (x, k) {
+        (Sort::Years, Kind::Years) => Some(Joint::Comma(Kind::Years)),
+        (Sort::MonthDays, Kind::Years) => Some(Joint::Blank(Kind::MonthDays)),
+        (Sort::MonthDays, Kind::MonthDays) => Some(Joint::Comma(Kind::MonthDays)),
+        (Sort::Weeks, Kind::Years | Kind::MonthDays) => Some(Joint::Blank(Kind::Weeks)),
+        (Sort::Weeks, Kind::Weeks | Kind::WeekNumbers) => Some(Joint::Comma(Kind::WeekNumbers)),
+        (Sort::Weekdays, Kind::Years | Kind::MonthDays | Kind::Weeks | Kind::WeekNumbers) => {
+            Some(Joint::Colon(Kind::Weekdays))
+        }
+        (Sort::Weekdays, Kind::Weekdays) => Some(Joint::Comma(Kind::Weekdays)),
+        (Sort::Weekdays, Kind::LastWeekdays | Kind::Holidays) => {
+            Some(Joint::Comma(Kind::LastWeekdays))
+        }
+        (Sort::Holidays, Kind::Years | Kind::MonthDays | Kind::Weeks | Kind::WeekNumbers) => {
+            Some(Joint::Colon(Kind::Holidays))
+        }
+        (Sort::Holidays, Kind::Holidays) => Some(Joint::Comma(Kind::Holidays)),
+        (Sort::Holidays, Kind::Weekdays | Kind::LastHolidays) => {
+            Some(Joint::Comma(Kind::LastHolidays))
+        }
+        (Sort::Times, Kind::Years | Kind::MonthDays | Kind::Weeks | Kind::WeekNumbers) => {
+            Some(Joint::Colon(Kind::Times))
+        }
+        (Sort::Times, Kind::Times) => Some(Joint::Comma(Kind::Times)),
+        (Sort::Times, _) => Some(Joint::Blank(Kind::Times)),
+        _ => None,
     }
 }

@@ -1,5 +1,5 @@
 -- An item of one of several kinds, from what stands at a place.
-use Rattle.std.specs.Prelude.{if◌then◌else◌}
+use Rattle.std.specs.Prelude.{Option, Some, None, if◌then◌else◌}
 use Prim.Native.Nat.{ℕ}
 use mathlib.Core.Bool.{Bool, true, false, ◌||◌, true≢false}
 use mathlib.Core.List.{List, [], ◌∷◌, ◌++◌}
@@ -15,8 +15,6 @@ use Rattle.items.specs.Sets.{has_kind, picked, yearly, numbered, kinds_of, begin
 use Rattle.items.specs.Seen.{at_place, place_of, with_kind, wished, after_name}
 use Rattle.items.specs.declared.Kind.{Kind}
 use Rattle.items.specs.declared.Kind.TheVariants.{Years, MonthDays, Weeks, Weekdays, LastWeekdays, Holidays, LastHolidays}
-use Rattle.items.specs.declared.Wish.{Wish}
-use Rattle.items.specs.declared.Wish.TheVariants.{As, Not}
 use Rattle.items.proofs.Standing.{none_at, begun_none, begun_is, weekday_none, holiday_none, weeks_none, no_month_day, no_year_item}
 
 module _ (m : Manner) (s : List ℕ) (i : ℕ) where
@@ -85,9 +83,9 @@ module _ (m : Manner) (s : List ℕ) (i : ℕ) where
 
   module _ {n v j : ℕ} (w : word s i ≡ got (n, v) j) where
     -- what a wish comes to
-    abbrev pub Wished : Wish → Read (Placed × Kind)
-    Wished (As k) = with_kind k (at_place s i (place_of n i s j) (after_name m i n v s j))
-    Wished Not = none
+    abbrev pub Wished : Option Kind → Read (Placed × Kind)
+    Wished (Some k) = with_kind k (at_place s i (place_of n i s j) (after_name m i n v s j))
+    Wished None = none
 
     -- where none stands after the name, none of any kind does
     none_after : after_name m i n v s j ≡ none → (ks : List Kind) → item_in m ks s i ≡ none
@@ -110,12 +108,12 @@ module _ (m : Manner) (s : List ℕ) (i : ℕ) where
         first none e = none_after e ks
         first (refused t p) e = refl
 
-        go : item_in m ks s i ≡ Wished (wished n ks) → (t : Bool) → begins_with n k ≡ t → follow s i (with_kind k (item_of m k s i)) pure (item_in m ks) ≡ Wished (if t then As k else wished n ks)
+        go : item_in m ks s i ≡ Wished (wished n ks) → (t : Bool) → begins_with n k ≡ t → follow s i (with_kind k (item_of m k s i)) pure (item_in m ks) ≡ Wished (if t then Some k else wished n ks)
         go l true h = rw (begun_is s i m w k h) (first (after_name m i n v s j) refl)
         go l false h = rw (begun_none s i m w k h) l
 
     -- as what the item is wanted, and what stands after the name
-    module _ (ks : List Kind) {k : Kind} (e : wished n ks ≡ As k) where
+    module _ (ks : List Kind) {k : Kind} (e : wished n ks ≡ Some k) where
       pub wished_item : {a : Item} {l : ℕ} → after_name m i n v s j ≡ got a l → item_in m ks s i ≡ got ((a, place_of n i s j), k) l
       wished_item f = rw (item_wished ks, e, f)
 
@@ -126,7 +124,7 @@ module _ (m : Manner) (s : List ℕ) (i : ℕ) where
       wished_none f = rw (item_wished ks, e, f)
 
     -- it is not wanted
-    pub unwished : (ks : List Kind) → wished n ks ≡ Not → item_in m ks s i ≡ none
+    pub unwished : (ks : List Kind) → wished n ks ≡ None → item_in m ks s i ≡ none
     unwished ks e = rw (item_wished ks, e)
 
   -- ---- where no name stands
@@ -144,3 +142,6 @@ module _ (m : Manner) (s : List ℕ) (i : ℕ) where
             pick_none set Weeks _ (weeks_none s i w) ∙ pick_none set Weekdays _ (weekday_none s i w m) ∙ pick_none set LastWeekdays _ (weekday_none s i w m)
             ∙ pick_none set Holidays _ (holiday_none s i w) ∙ pick_none set LastHolidays _ (holiday_none s i w)
         go (refused n p) = refl
+
+-- what an item that begins with a name comes to
+pub ruleset begins = (wished_item, wished_refused, wished_none, unwished)

@@ -1,6 +1,7 @@
 -- A broken quote is one in a text alone and in a longer one: before a `;` outside quotes a quote that opens has its closing quote.
 use Rattle.std.specs.Prelude.{if◌then◌else◌}
-use Prim.Native.Nat.{ℕ, suc, ◌+◌, ◌≤◌, ◌<◌}
+use Rattle.std.specs.List.{list_any}
+use Prim.Native.Nat.{ℕ, suc, ◌+◌, ◌-◌, ◌<◌}
 use mathlib.Core.List.{List, [], ◌∷◌, ◌++◌, append-nil}
 use mathlib.Core.Bool.{Bool, true, false, ◌||◌, not, true≢false}
 use mathlib.Core.Path.{◌≡◌, refl, sym, ap, ◌∙◌}
@@ -10,7 +11,8 @@ use native.Mathlib.Decide.{dec_lt}
 use native.Mathlib.Nat.{add-suc}
 use borrow.Author.Tests.{ne_eqb}
 use lib.Dec.{eqb}
-use lib.ListN.{length, get_or, drop, get_or-append, get_or-eq_default, drop_of_length-le}
+use Rattle.std.proofs.lemmas.List.{take_all, length-drop}
+use lib.ListN.{length, get_or, take, drop, get_or-append, get_or-eq_default, drop_of_length-le}
 use lib.Seq.{drop-cons, get_or-append-add, get_or_at, drop-append-le, drop-append-add}
 use Rattle.names.specs.Quotes.{inside_of}
 use Rattle.names.specs.Refusals.{no_shape, broken_quote}
@@ -19,7 +21,8 @@ use Rattle.names.specs.Read.{refused}
 use Rattle.names.specs.declared.Manner.TheVariants.{Second}
 use Rattle.items.specs.Musts.{has_quote, at_broken_quote, missing_at, missing}
 use Rattle.items.specs.Seen.{Lacking}
-use Rattle.items.specs.declared.Lack.{Lack}
+use Rattle.names.specs.Refusals.{number}
+use Rattle.names.specs.declared.refusals.Refusal.{Refusal}
 
 -- a text that leads inside has a quote
 inside_quote : (x : List ℕ) → inside_of x ≡ true → has_quote x ≡ true
@@ -102,22 +105,15 @@ missing_number s i = go (at_broken_quote s i)
     go false = omega arith
 
 -- what the code says is missing is missing, whatever was to stand there
-pub lack_is : (A : Type 0) (s : List ℕ) (i : ℕ) (r : Lack) → Lacking s i r → missing {A = A} s i ≡ refused r.number r.place
+pub lack_is : (A : Type 0) (s : List ℕ) (i : ℕ) (r : Refusal) → Lacking s i r → missing {A = A} s i ≡ refused (number r.reason) r.place
 unfolding missing
 lack_is A s i r h = rw (h.0, ← h.1)
 
--- a quote from a place on, or from the next
-pub quote_here : (s : List ℕ) (i : ℕ) → i < length s → get_or s i 0 ≡ 34 → has_quote (drop i s) ≡ true
+-- a quote among bytes
+pub quote_any : (s : List ℕ) → has_quote s ≡ list_any (λ y. eqb y 34) s
 unfolding has_quote
-quote_here s i h e = rw (drop-cons s i 0 h, e)
-
-pub quote_later : (s : List ℕ) (i : ℕ) → i < length s → (get_or s i 0 ≡ 34 → ⊥) → has_quote (drop i s) ≡ has_quote (drop (i + 1) s)
-unfolding has_quote
-quote_later s i h e = rw (add-one, drop-cons s i 0 h, ne_eqb (get_or s i 0) 34 e)
-
-pub quote_end : (s : List ℕ) (i : ℕ) → length s ≤ i → has_quote (drop i s) ≡ false
-unfolding has_quote
-quote_end s i h = rw (drop_of_length-le s {i = i} h)
+quote_any [] = refl
+quote_any (b ∷ s) = ap (λ r. eqb b 34 || r) (quote_any s)
 
 -- a broken quote, from the bytes
 module _ (s : List ℕ) (i : ℕ) where
@@ -125,10 +121,13 @@ module _ (s : List ℕ) (i : ℕ) where
   unfolding at_broken_quote
   broken_two e f = rw (← add-one i, e, f)
 
-  pub broken_one : get_or s i 0 ≡ 34 → (get_or s (i + 1) 0 ≡ 34 → ⊥) → at_broken_quote s i ≡ not (has_quote (drop (i + 1) s))
+  -- (as a slice to the text's end is written)
+  pub broken_one : get_or s i 0 ≡ 34 → (get_or s (i + 1) 0 ≡ 34 → ⊥) → at_broken_quote s i ≡ not (has_quote (take (length s - (i + 1)) (drop (i + 1) s)))
   unfolding at_broken_quote
-  broken_one e f = rw (← add-one i, e, ne_eqb (get_or s (i + 1) 0) 34 f)
+  broken_one e f = rw (← add-one i, e, ne_eqb (get_or s (i + 1) 0) 34 f, take_all (length s - (i + 1)) (drop (i + 1) s) (omega (arith, length-drop (i + 1) s)))
 
   pub broken_no : (get_or s i 0 ≡ 34 → ⊥) → at_broken_quote s i ≡ false
   unfolding at_broken_quote
   broken_no e = rw (ne_eqb (get_or s i 0) 34 e)
+
+pub ruleset broken = (broken_two, broken_one, broken_no)

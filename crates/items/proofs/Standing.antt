@@ -1,5 +1,5 @@
 -- What stands at a place, from the name or the year that is found there.
-use Rattle.std.specs.Prelude.{if◌then◌else◌}
+use Rattle.std.specs.Prelude.{Some, None}
 use Prim.Native.Nat.{ℕ, suc, ◌+◌, ◌-◌, ◌*◌, ◌≤◌}
 use mathlib.Core.Bool.{Bool, true, false, ◌&&◌, ◌||◌, true≢false}
 use mathlib.Core.List.{List}
@@ -28,7 +28,6 @@ use Rattle.days.specs.Holidays.{holiday_after, holiday_shape, holiday_meaning, h
 use Rattle.dates.specs.Dates.{optional_year, day_after}
 use Rattle.dates.specs.Years.{year_after, year_shape, year_meaning, year_item, year_item_after}
 use Rattle.dates.specs.MonthDays.{month_item_after, month_day_after, month_day_item}
-use Rattle.dates.specs.declared.Year.TheVariants.{Absent, Given}
 use Rattle.dates.specs.Weeks.{week_shape, week_item}
 use Rattle.items.specs.Musts.{missing_at, missing, must}
 use Rattle.records.specs.Words.{Placed}
@@ -62,7 +61,7 @@ module _ (s : List ℕ) (i : ℕ) where
   name_none x w = rw w
 
   -- no year before a date
-  no_year_before : year s i ≡ none → optional_year s i ≡ got Absent i
+  no_year_before : year s i ≡ none → optional_year s i ≡ got None i
   unfolding optional_year
   no_year_before e = rw e
 
@@ -316,7 +315,7 @@ module _ (s : List ℕ) (i : ℕ) {y d : ℕ} (e : year s i ≡ got y d) where
   year_item_lem = item_after_lem year year_after year_meaning e
 
   -- the year belongs to a date: a blank, and a name that begins one
-  pub dated_is : {j l : ℕ} {w : Word × Bool} → blank s d ≡ got tt j → spelled s j ≡ got w l → month_day_item s i ≡ month_day_after i (Given y) w s l
+  pub dated_is : {j l : ℕ} {w : Word × Bool} → blank s d ≡ got tt j → spelled s j ≡ got w l → month_day_item s i ≡ month_day_after i (Some y) w s l
   unfolding month_day_item optional_year
   dated_is b w = rw (e, b, w)
 

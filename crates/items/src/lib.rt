@@ -1,21 +1,21 @@
 // Items of any kind: one look at a place, and the item that stands there, if it is wanted.
 #![tactic(auto)]
 
-mod kinds;
 mod looks;
 mod musts;
+mod sets;
 
-pub use kinds::{
+pub use looks::look_at;
+pub use musts::missing;
+use names::{Cursor, Word};
+use records::Item;
+pub use sets::{
     HOLIDAYS, LAST_HOLIDAYS, LAST_WEEKDAYS, MONTH_DAYS, NO_KIND, TIMES, WEEK_NUMBERS, WEEKDAYS,
     WEEKS, YEARS,
 };
-pub use looks::look_at;
-pub use musts::missing;
-use names::Cursor;
-use records::Item;
 
 // The kinds of items in a rule.
-#[derive(Clone, Copy)]
+#[derive(Clone, Copy, PartialEq, Eq)]
 pub enum Kind {
     Years,
     MonthDays,
@@ -32,26 +32,24 @@ pub enum Kind {
     Times,
 }
 
-// What is missing at a place: the number that says what, and the place.
+// A set of kinds: a bit for each, so that what may stand at a place is one number.
+#[derive(Clone, Copy, PartialEq, Eq)]
+pub struct Kinds {
+    pub bits: u16,
+}
+
+// An item, its place and its kind.
 #[derive(Clone, Copy)]
-pub struct Lack {
-    pub number: u8,
+pub struct PlacedItem {
+    pub item: Item,
     pub place: usize,
+    pub kind: Kind,
 }
 
-// As what an item is wanted, or that it is not.
-#[derive(Clone, Copy)]
-pub enum Wish {
-    As(Kind),
-    Not,
-}
-
-// What stands at a place: an item that was wanted, its place, its kind and the place after it; the refusal of one, its number and place;
-// else a name, its kind, which of its kind it is and the place after it; or neither.
+// What stands at a place: an item that was wanted and the place after it; else a name and the place after it; or neither.
 #[derive(Clone, Copy)]
 pub enum Stands {
-    Item(Item, usize, Kind, Cursor),
-    Refused(u8, usize),
-    Name(u8, u8, Cursor),
+    Item(PlacedItem, Cursor),
+    Name(Word, Cursor),
     Nothing,
 }

@@ -26,7 +26,7 @@ sixteen_append (r ∷ a) b h k = (h.0, sixteen_append a b h.1 k)
 -- ---- the cells of records in a table
 
 -- two runs of stores, one after the other
-sets_append : {A : Type 0} (x y t : List A) (b : ℕ) → sets t b (x ++ y) ≡ sets (sets t b x) (b + length x) y
+pub sets_append : {A : Type 0} (x y t : List A) (b : ℕ) → sets t b (x ++ y) ≡ sets (sets t b x) (b + length x) y
 sets_append [] y t b = ap (λ (n : ℕ). sets t n y) (omega arith)
 sets_append (a ∷ x) y t b = let e : suc b + length x ≡ b + suc (length x) = omega arith in sets_append x y (set t b a) (suc b) ∙ ap (λ (n : ℕ). sets (sets t b (a ∷ x)) n y) e
 

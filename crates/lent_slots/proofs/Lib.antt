@@ -3,3 +3,4 @@ pub mod Keeps
 pub mod Cells
 pub mod OfBytes
 pub mod SlotLaws
+pub mod Words

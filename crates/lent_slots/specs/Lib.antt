@@ -1,3 +1,5 @@
 pub mod Bytes
 pub mod Tables
 pub mod Slots
+pub mod SlotCells
+pub mod Lent

@@ -4,30 +4,13 @@ ghost use Rattle.std.specs.Int.{w32};
 ghost use Rattle.std.proofs.Common.{to_z};
 ghost use Rattle.lent_slots.specs.Slots as slots;
 
-// A byte as a number.
-fn wide(x: u8) -> u32
-    ensures { (result ≡ x) × (result ≤ 255) }
-{
-    x as u32
-}
-
 // The number in four bytes, the lowest first.
+#[tactic(auto, unfolding(crate::specs::Slots::number_from))]
 pub fn number_in(b: &[u8], p: usize) -> u32
     requires { p + 4 ≤ length b.now }
     ensures { result ≡ slots.number_from b.now p }
 {
-    wide(b[p]) + wide(b[p + 1]) * 256 + wide(b[p + 2]) * 65536 + wide(b[p + 3]) * 16777216
-}
-
-// A number's bits as a word: from 2 ^ 31 on it is below 0 (two's complement).
-fn word_of(n: u32) -> i32
-    ensures { result ≡ to_z w32 n }
-{
-    if n < 2147483648 {
-        n as i32
-    } else {
-        !((!n) as i32)
-    }
+    u32::from_le_bytes([b[p], b[p + 1], b[p + 2], b[p + 3]])
 }
 
 // The record in a slot of a table of bytes.
@@ -36,9 +19,10 @@ pub fn bytes_at(table: &[u8], slot: usize) -> [i32; 16]
     ensures { result ≡ slots.words_from 16 table.now (slot * 64) }
 {
     let base = slot * 64;
+    // By place, as `words_from` is.
     let mut w = [0i32; 16];
     for i in 0..16 {
-        w[i] = word_of(number_in(table, base + i * 4));
+        w[i] = number_in(table, base + i * 4).cast_signed();
     }
     w
 }

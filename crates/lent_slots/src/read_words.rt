@@ -7,9 +7,7 @@ pub fn words_at(table: &[i32], slot: usize) -> [i32; 16]
     ensures { result ≡ take 16 (drop (slot * 16) table.now) }
 {
     let base = slot * 16;
-    let mut w = [0i32; 16];
-    for i in 0..16 {
-        w[i] = table[base + i];
-    }
+    let mut w = [0; 16];
+    w.copy_from_slice(&table[base..base + 16]);
     w
 }

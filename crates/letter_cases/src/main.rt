@@ -25,15 +25,10 @@ fn digit(b: u8) -> u8
 fn decode(line: &[u8], space: &mut [u8]) -> usize
     ensures { IsPrefixLen result space.new }
 {
-    let mut n = 0;
-    let mut at = 0;
-    while n < space.len() {
-        if line.len() - at < 2 {
-            return n;
-        }
-        space[n] = digit(line[at]) * 16 + digit(line[at + 1]);
-        n += 1;
-        at += 2;
+    let (pairs, _) = line.as_chunks::<2>();
+    let n = pairs.len().min(space.len());
+    for (byte, pair) in space.iter_mut().zip(pairs) {
+        *byte = digit(pair[0]) * 16 + digit(pair[1]);
     }
     n
 }
@@ -48,14 +43,19 @@ fn run_line(rt: &impl Print, line: &[u8]) -> Result<(), Error> {
     print_number(rt, c.at as u64, b'\n')
 }
 
-// Reads each line: what stands before a byte that is no digit.
+// Whether a byte ends a line: no digit.
+fn is_end(b: &u8) -> bool {
+    !(b'0'..=b'f').contains(b)
+}
+
+// Reads each line. What stands after the last end is one too.
 fn run(rt: &impl Print, s: &[u8]) -> Result<(), Error> {
-    let mut at = 0;
-    while at < s.len() {
-        let end = Cursor { at }.skip(s, b'0', b'f');
-        let e = end.at;
-        run_line(rt, &s[at..e])?;
-        at = e + 1;
+    for piece in s.split_inclusive(is_end) {
+        let line = match piece.split_last() {
+            Some((b, line)) if is_end(b) => line,
+            _ => piece,
+        };
+        run_line(rt, line)?;
     }
     Ok(())
 }

@@ -1,5 +1,5 @@
 -- The list of entries, one for each rule of a table: its head's number, and the months that its month-day items can touch. In lent bytes an entry is two numbers.
-use Rattle.std.specs.Prelude.{ℕ, zero, suc, ◌+◌, ◌*◌, ◌-◌, ◌/◌, ◌%◌, List, [], ◌∷◌, ltb, length, if◌then◌else◌}
+use Rattle.std.specs.Prelude.{ℕ, zero, suc, ◌+◌, ◌*◌, ◌-◌, ◌/◌, ◌%◌, List, [], ◌∷◌, ltb, length, if◌then◌else◌, Result, Ok, Err}
 use Rattle.std.proofs.lemmas.List.Edits.{sets}
 use Rattle.lent_slots.specs.Bytes.{little_endian}
 use Rattle.lent_slots.specs.Tables.{Tables}
@@ -8,6 +8,8 @@ use Rattle.tables.specs.Tables.{table_fits}
 use Rattle.table_rules.specs.Rules.{Rule, rules_in}
 use Rattle.table_rules.specs.Numbers.{written}
 use Rattle.months.specs.Months.{rule_mask}
+use Rattle.months.specs.declared.entries.ListError.{ListError}
+use Rattle.months.specs.declared.entries.ListError.TheVariants.{NoFit, ShortList}
 
 -- head numbers are counted modulo 2 ^ 32
 abbrev pub wrap : ℕ → ℕ
@@ -25,6 +27,15 @@ no_fit = 16
 -- the list is shorter than the rules
 abbrev pub short_list : ℕ
 short_list = 21
+
+-- the number of each reason why a list is not built or renewed, and of an outcome
+abbrev pub error_number : ListError → ℕ
+error_number NoFit = no_fit
+error_number ShortList = short_list
+
+abbrev pub number_of : Result (Unit {0}) ListError → ℕ
+number_of (Ok u) = 0
+number_of (Err e) = error_number e
 
 -- how many entries lent bytes have
 abbrev pub entry_count : List ℕ → ℕ

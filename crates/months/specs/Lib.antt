@@ -1,3 +1,3 @@
 pub mod Months
 pub mod Entries
-pub mod Seen
+pub mod Walk

@@ -7,11 +7,11 @@ use native.Mathlib.Nat.{sub-zero, pow-le-pow_right}
 use native.Mathlib.Numerals.{add-one}
 use mathlib.Core.Bool.{Bool, true, false}
 use lib.Dec.{eqb}
+use Rattle.std.specs.Prelude.{Option, Some, None}
 use Rattle.names.specs.Read.{got, none, when}
 use Rattle.names.specs.Numbers.{digit, enough, up_to, digits}
 use Rattle.names.specs.Seen.{seen_num, value}
-use Rattle.names.specs.declared.Num.{Num}
-use Rattle.names.specs.declared.Num.TheVariants.{Got, Missing}
+use Rattle.names.specs.declared.Cursor.{Cursor}
 
 -- none yet
 pub digits_start : (least most : ℕ) (s : List ℕ) (i : ℕ) → up_to (most - 0) (least - 0) 0 s i ≡ digits least most s i
@@ -48,11 +48,11 @@ pub below : (n most a : ℕ) → n ≤ most → a < 10 ^ n → a ≤ 10 ^ most -
 below n most a h k = omega (arith, pow-le-pow_right {n = 10} (omega arith) h)
 
 -- what is enough is the number
-pub enough_small : (w a i : ℕ) (r : Num) → enough w a [] i ≡ seen_num r → value r ≤ a
+pub enough_small : (w a i : ℕ) (r : Option (ℕ × Cursor)) → enough w a [] i ≡ seen_num r → value r ≤ a
 enough_small w a i r e = go (eqb w 0) r e
   where
-    go : (t : Bool) (r : Num) → when t (got a i) ≡ seen_num r → value r ≤ a
-    go true (Got n c) e = let q : a ≡ n = cc in omega arith
-    go true Missing e = omega arith
-    go false (Got n c) e = let z : ◌≡◌ {A = ℕ} 0 1 = cc in omega arith
-    go false Missing e = omega arith
+    go : (t : Bool) (r : Option (ℕ × Cursor)) → when t (got a i) ≡ seen_num r → value r ≤ a
+    go true (Some x) e = let q : a ≡ x.0 = cc in omega arith
+    go true None e = omega arith
+    go false (Some x) e = let z : ◌≡◌ {A = ℕ} 0 1 = cc in omega arith
+    go false None e = omega arith

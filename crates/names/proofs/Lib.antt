@@ -7,7 +7,6 @@ pub mod Skips
 pub mod Chains
 pub mod Cut
 pub mod NameCut
-pub mod Facts
 pub mod Manners
 pub mod Laws
 pub mod Digits

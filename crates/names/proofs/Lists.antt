@@ -1,85 +1,56 @@
--- Names that are written one after another: what the loops of the search go by.
+-- Names that are written one after another: what the search goes by.
 use Rattle.std.specs.Prelude.{if◌then◌else◌}
-use Prim.Native.Nat.{ℕ, zero, suc, ◌+◌, ◌≤◌, ◌<◌}
-use mathlib.Core.List.{List, ◌∷◌}
+use Rattle.std.specs.List.{list_all, enumerate_from}
+use Prim.Native.Nat.{ℕ, ◌+◌, ◌≤◌, ◌<◌}
+use mathlib.Core.Bool.{Bool, true, false}
+use mathlib.Core.List.{List, [], ◌∷◌}
 use mathlib.Core.Path.{◌≡◌, refl, ◌∙◌}
-use native.Mathlib.Omega.{arith}
-use native.Mathlib.Nat.{add-zero, add_assoc}
+use native.Mathlib.Nat.{add_assoc}
+use lib.Dec.{eqb}
 use native.Mathlib.Numerals.{add-one}
-use borrow.Author.Tests.{lt-ltb, le-ltb, eq-eqb, ne_eqb}
-use lib.ListN.{length, get_or, take, drop, length-drop, drop_of_length-le}
-use lib.Seq.{drop-cons, length-take-le, get_or-take, get_or-drop}
-use Rattle.names.specs.Read.{Read, got, none}
+use lib.ListN.{length, get_or, drop, drop_of_length-le}
+use lib.Seq.{drop-cons}
+use Rattle.names.specs.Read.{Read, got, none, when}
 use Rattle.names.specs.Names.{Word}
-use Rattle.names.specs.Table.{compared, stand, first_in, rows_in, rows}
+use Rattle.names.specs.Table.{compared, stand, first_in, rows}
 
--- names of a kind, n letters each, written in xs; the text s at the place i
-module _ (s xs : List ℕ) (i n kind first : ℕ) where
-  -- what the search says
-  abbrev all : Read Word
-  all = first_in (rows n kind first xs) s i
+-- whether the letter with this number stands where the name begins at i
+abbrev pub letter_at : ℕ → List ℕ → ℕ → ℕ × ℕ → Bool
+letter_at kind s i x = eqb (compared kind (get_or s (i + x.0) 0)) x.1
 
-  -- the names before the one that is written at `from` do not stand here: those from there on are left, the first of them with this value
-  pub record Left (value from : ℕ) : Type 0 where
-    pub fuel : ℕ
-    pub enough : length xs + 1 ≤ from + fuel
-    pub is : all ≡ first_in (rows_in fuel n kind value xs from) s i
-    pub low : value ≤ first + from
-    pub near : from ≤ length xs + 1
+-- so do all letters
+pub all_stand : (kind : ℕ) (s : List ℕ) (i n : ℕ) (xs : List ℕ) → list_all (letter_at kind s i) (enumerate_from n xs) ≡ stand kind xs s (i + n)
+unfolding stand
+all_stand kind s i n [] = refl
+all_stand kind s i n (x ∷ xs) = rw (all_stand kind s i (n + 1) xs, add_assoc i n 1)
 
-  pub start : Left first 0
-  unfolding rows
-  start = record { fuel = suc (length xs); enough = omega arith; is = refl; low = omega arith; near = omega arith }
+-- names of a kind, the first of which has the value v, and a place
+module _ (kind first : ℕ) (names : List (List ℕ)) (s : List ℕ) (i : ℕ) where
+  -- what the search finds from the name with this number on
+  abbrev pub from_name : ℕ → Read Word
+  from_name k = first_in (rows kind (first + k) (drop k names)) s i
 
-  -- no name is left
-  pub over : {value from : ℕ} → Left value from → length xs < from + n → all ≡ none
-  unfolding rows_in first_in
-  over {value} {from} w h = w.is ∙ go w.fuel
-    where
-      go : (m : ℕ) → first_in (rows_in m n kind value xs from) s i ≡ none
-      go zero = refl
-      go (suc m) = rw (lt-ltb _ _ h)
+  module _ {k : ℕ} (h : k < length names) (x : List ℕ) (e : x ≡ get_or names k x) where
+    -- it stands here, or those after it are left
+    this : from_name k ≡ (if stand kind x s i then got (kind, first + k) (i + length x) else from_name (k + 1))
+    unfolding rows first_in
+    this = rw (drop-cons names k x h, ← e, add_assoc first k 1, add-one k)
 
-  -- the name that is written at `from`
-  abbrev name : ℕ → List ℕ
-  name from = take n (drop from xs)
+    pub found : {j : ℕ} → when (stand kind x s i) (got (tt {0}) (i + length x)) ≡ got tt j → from_name k ≡ got (kind, first + k) j
+    found {j} q = this ∙ go (stand kind x s i) q
+      where
+        go : (t : Bool) → when t (got (tt {0}) (i + length x)) ≡ got tt j → (if t then got (kind, first + k) (i + length x) else from_name (k + 1)) ≡ got (kind, first + k) j
+        go true p = cc
+        go false p = cc
 
-  name_length : (from : ℕ) → from + n ≤ length xs → length (name from) ≡ n
-  name_length from h = length-take-le n (drop from xs) (omega (arith, length-drop from xs))
+    pub passed : when (stand kind x s i) (got (tt {0}) (i + length x)) ≡ none → from_name k ≡ from_name (k + 1)
+    passed q = this ∙ go (stand kind x s i) q
+      where
+        go : (t : Bool) → when t (got (tt {0}) (i + length x)) ≡ none → (if t then got (kind, first + k) (i + length x) else from_name (k + 1)) ≡ from_name (k + 1)
+        go true p = cc
+        go false p = refl
 
-  -- its first j letters stand here: the others are left, and the names after it
-  pub record Within (value from j : ℕ) : Type 0 where
-    pub fuel : ℕ
-    pub enough : length xs + 1 ≤ from + (n + 1) + fuel
-    pub is : all ≡ (if stand kind (drop j (name from)) s (i + j) then got (kind, value) (i + n) else first_in (rows_in fuel n kind (value + 1) xs (from + (n + 1))) s i)
-    pub low : value ≤ first + from
-    pub fits : from + n ≤ length xs
-    pub few : j ≤ n
-
-  pub enter : {value from : ℕ} → Left value from → from + n ≤ length xs → Within value from 0
-  unfolding rows_in first_in
-  enter {value} {from} w h = go w.fuel w.enough w.is
-    where
-      go : (m : ℕ) → length xs + 1 ≤ from + m → all ≡ first_in (rows_in m n kind value xs from) s i → Within value from 0
-      go zero l e = absurd (omega arith)
-      go (suc m) l e = record { fuel = m; enough = omega arith; is = e ∙ rw (le-ltb (length xs) (from + n) h, name_length from h, add-zero i); low = w.low; fits = h; few = omega arith }
-
-  -- all its letters stand here
-  pub ended : {value from j : ℕ} → Within value from j → j ≡ n → all ≡ got (kind, value) (i + n)
-  unfolding stand
-  ended {from = from} {j} w e = w.is ∙ rw (drop_of_length-le (name from) {i = j} (omega (arith, name_length from w.fits)))
-
-  module _ {value from j : ℕ} (w : Within value from j) (l : j < n) where
-    -- the next of them
-    next : drop j (name from) ≡ get_or xs (from + j) 0 ∷ drop (j + 1) (name from)
-    next = drop-cons (name from) j 0 (omega (arith, name_length from w.fits)) ∙ rw (get_or-take n (drop from xs) j 0 l, get_or-drop from xs j 0, add-one j)
-
-    -- it stands here
-    pub same : compared kind (get_or s (i + j) 0) ≡ get_or xs (from + j) 0 → Within value from (j + 1)
-    unfolding stand
-    same e = record { fuel = w.fuel; enough = w.enough; is = w.is ∙ rw (next, eq-eqb _ _ e, add_assoc i j 1); low = w.low; fits = w.fits; few = omega arith }
-
-    -- another stands here: the next name
-    pub other : (compared kind (get_or s (i + j) 0) ≡ get_or xs (from + j) 0 → ⊥) → Left (value + 1) (from + (n + 1))
-    unfolding stand
-    other e = record { fuel = w.fuel; enough = w.enough; is = w.is ∙ rw (next, ne_eqb _ _ e); low = omega (arith, w.low); near = omega (arith, w.fits) }
+  -- none is left
+  pub over : {k : ℕ} → length names ≤ k → from_name k ≡ none
+  unfolding rows first_in
+  over h = rw (drop_of_length-le names h)

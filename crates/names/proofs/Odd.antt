@@ -1,11 +1,13 @@
 -- How a name is written: its letters one by one, and that it depends on nothing but its own bytes.
-use Prim.Native.Nat.{ℕ, suc, ◌+◌, ◌≤◌, ◌<◌}
+use Prim.Native.Nat.{ℕ, suc, ◌+◌, ◌-◌, ◌≤◌, ◌<◌}
 use native.Mathlib.Omega.{arith}
 use native.Mathlib.Nat.{suc-add, zero-add}
-use mathlib.Core.Bool.{Bool, true, false, ◌&&◌}
+use mathlib.Core.Bool.{Bool, false, ◌&&◌}
 use mathlib.Core.List.{List, [], ◌∷◌, ◌++◌, append-nil}
-use mathlib.Core.Path.{◌≡◌}
-use lib.ListN.{length, get_or, take, length-take, drop_of_length-le}
+use mathlib.Core.Path.{◌≡◌, refl, sym, ap, ◌∙◌}
+use Rattle.std.specs.List.{list_all}
+use Rattle.std.proofs.lemmas.List.{drop-take}
+use lib.ListN.{length, get_or, take, drop}
 use lib.Seq.{slice, slice-cons, take-append-le}
 use Rattle.names.specs.Read.{Reader, got, none, pure, ◌>>=◌}
 use Rattle.names.specs.Names.{Word, word, name}
@@ -16,27 +18,21 @@ use Rattle.names.proofs.NameCut.{word_local, name_local}
 
 -- ---- letters
 
-module _ (s : List ℕ) (i t : ℕ) where
-  -- no letters are small
-  pub small_none : t ≤ i → all_small (slice i t s) ≡ true
-  unfolding all_small
-  small_none h = let k : length (take t s) ≤ i = omega (arith, length-take t s) in rw (drop_of_length-le (take t s) k)
+-- the bytes from one place to another, as the code cuts them out
+pub cut_slice : (s : List ℕ) (i t : ℕ) → i ≤ t → take (t - i) (drop i s) ≡ slice i t s
+cut_slice s i t h = let e : i + (t - i) ≡ t = omega arith in sym (drop-take i (t - i) s) ∙ ap (λ k. slice i k s) e
 
-  module _ (h : i < t) (k : t ≤ length s) where
-    -- a small letter, and those after it
-    pub small_more : is_small (get_or s i 0) ≡ true → all_small (slice i t s) ≡ all_small (slice (suc i) t s)
-    unfolding all_small
-    small_more e = rw (slice-cons i t s 0 h k, e)
+-- small letters, in the library's word
+pub all_small_lem : (xs : List ℕ) → all_small xs ≡ list_all is_small xs
+unfolding all_small
+all_small_lem [] = refl
+all_small_lem (x ∷ xs) = rw (all_small_lem xs)
 
-    -- another byte
-    pub small_stop : is_small (get_or s i 0) ≡ false → all_small (slice i t s) ≡ false
-    unfolding all_small
-    small_stop e = rw (slice-cons i t s 0 h k, e)
-
-    -- a name is written as its first letter and its others are
-    pub written_first : (kind : ℕ) → well_written kind (slice i t s) ≡ (well_begun kind (get_or s i 0) && all_small (slice (suc i) t s))
-    unfolding well_written
-    written_first kind = rw (slice-cons i t s 0 h k)
+module _ (s : List ℕ) (i t : ℕ) (h : i < t) (k : t ≤ length s) where
+  -- a name is written as its first letter and its others are
+  pub written_first : (kind : ℕ) → well_written kind (slice i t s) ≡ (well_begun kind (get_or s i 0) && all_small (slice (suc i) t s))
+  unfolding well_written
+  written_first kind = rw (slice-cons i t s 0 h k)
 
 -- ---- the text s stands after u and before v
 

@@ -4,7 +4,7 @@ use Prim.Native.Nat.{ℕ, zero, suc, ◌+◌, ◌≤◌, ◌<◌}
 use mathlib.Core.Bool.{Bool, true, false, ◌&&◌, and-false, and-eq-true_iff}
 use mathlib.Core.List.{List, [], ◌∷◌, ◌++◌}
 use mathlib.Core.Logic.{◌↔◌}
-use mathlib.Core.Path.{◌≡◌, refl, sym, ◌∙◌}
+use mathlib.Core.Path.{◌≡◌, refl, sym, ap, ◌∙◌}
 use native.Mathlib.Omega.{arith}
 use native.Mathlib.Nat.{add-zero}
 use native.Mathlib.Decide.{dec_lt}
@@ -13,13 +13,13 @@ use lib.Dec.{eqb, leb}
 use lib.ListN.{length, get_or}
 use Rattle.names.specs.Tests.{within}
 use Rattle.names.specs.Read.{Read, got, none, refused, follow, nothing, pure, when}
-use Rattle.names.specs.Texts.{all_of}
-use Rattle.names.specs.Names.{Row, Word, month, seven, six, four, three, two, four_or_more, three_or_more, names, spelled_so, lower, letter, first_of, word}
-use Rattle.names.specs.Table.{fold, compared, stand, first_in, or_else}
+use Rattle.names.specs.Texts.{bytes, all_of}
+use Rattle.names.specs.Names.{Row, Word, weekday, month, event, easter, modifier, holiday, week, day, seven, six, four, three, two, four_or_more, three_or_more, names, spelled_so, lower, letter, first_of, word}
+use Rattle.names.specs.Table.{fold, compared, stand, first_in, or_else, rows}
 use Rattle.names.proofs.Found as value
 use Rattle.names.proofs.Laws.{one_is, within_below}
 use Rattle.names.proofs.Folds.{tells}
-use Rattle.names.proofs.Rows.{NameLetter, plain, plain_split, all_good, names_good, good_split, longer, longer_split}
+use Rattle.names.proofs.Rows.{NameLetter, is_letter_lem, plain, plain_split, all_good, names_good, good_split, longer, longer_split}
 
 -- the comparison tells a letter of a name as the definition does
 pub alike : (kind b x : ℕ) → NameLetter kind x → (compared kind b ≡ x) ↔ (letter kind b ≡ x)
@@ -101,17 +101,30 @@ module _ (s : List ℕ) where
         go none q = q
         go (refused k p) q = refl
 
-    -- what some names say
-    pub record Says (rs : List Row) (w : Read Word) : Type 0 where
-      pub is : first_of rs s i ≡ w
+    -- names, compared as the code compares, and more of them
+    more : (rs qs : List Row) → all_good qs ≡ true → first_of (rs ++ qs) s i ≡ or_else (first_of rs s i) (first_in qs s i)
+    more rs qs g = first_append rs qs ∙ ap (or_else (first_of rs s i)) (first_is qs g)
 
-    -- a list of names, compared as the code compares
-    pub begun : {qs : List Row} {w : Read Word} → all_good qs ≡ true → or_else none (first_in qs s i) ≡ w → Says qs w
-    begun {qs} g h = record { is = first_is qs g ∙ h }
+    -- each group: its lists of names, one after another
+    pub seven_lem : first_of seven s i ≡ or_else (first_in (rows event 2 (bytes "sunrise" ∷ [])) s i) (first_in (rows modifier 2 (bytes "unknown" ∷ [])) s i)
+    unfolding all_good is_letter_lem plain rows spelled_so within
+    seven_lem = more ((rows event 2 (bytes "sunrise" ∷ []))) (rows modifier 2 (bytes "unknown" ∷ [])) refl ∙ ap (λ w. or_else w (first_in (rows modifier 2 (bytes "unknown" ∷ [])) s i)) (first_is (rows event 2 (bytes "sunrise" ∷ [])) refl)
 
-    -- a list more
-    pub and_more : {rs : List Row} {v w : Read Word} → Says rs v → (qs : List Row) → all_good qs ≡ true → or_else v (first_in qs s i) ≡ w → Says (rs ++ qs) w
-    and_more {rs} e qs g h = record { is = first_append rs qs ∙ rw (e.is, first_is qs g) h }
+    pub six_lem : first_of six s i ≡ or_else (or_else (first_in (rows modifier 1 (bytes "closed" ∷ [])) s i) (first_in (rows easter 0 (bytes "easter" ∷ [])) s i)) (first_in (rows event 3 (bytes "sunset" ∷ [])) s i)
+    unfolding all_good is_letter_lem plain rows spelled_so within
+    six_lem = more ((rows modifier 1 (bytes "closed" ∷ [])) ++ (rows easter 0 (bytes "easter" ∷ []))) (rows event 3 (bytes "sunset" ∷ [])) refl ∙ ap (λ w. or_else w (first_in (rows event 3 (bytes "sunset" ∷ [])) s i)) (more ((rows modifier 1 (bytes "closed" ∷ []))) (rows easter 0 (bytes "easter" ∷ [])) refl ∙ ap (λ w. or_else w (first_in (rows easter 0 (bytes "easter" ∷ [])) s i)) (first_is (rows modifier 1 (bytes "closed" ∷ [])) refl))
+
+    pub four_lem : first_of four s i ≡ or_else (or_else (or_else (or_else (first_in (rows event 1 (bytes "dawn" ∷ [])) s i) (first_in (rows event 4 (bytes "dusk" ∷ [])) s i)) (first_in (rows modifier 0 (bytes "open" ∷ [])) s i)) (first_in (rows week 0 (bytes "week" ∷ [])) s i)) (first_in (rows day 0 (bytes "days" ∷ [])) s i)
+    unfolding all_good is_letter_lem plain rows spelled_so within
+    four_lem = more ((rows event 1 (bytes "dawn" ∷ [])) ++ (rows event 4 (bytes "dusk" ∷ [])) ++ (rows modifier 0 (bytes "open" ∷ [])) ++ (rows week 0 (bytes "week" ∷ []))) (rows day 0 (bytes "days" ∷ [])) refl ∙ ap (λ w. or_else w (first_in (rows day 0 (bytes "days" ∷ [])) s i)) (more ((rows event 1 (bytes "dawn" ∷ [])) ++ (rows event 4 (bytes "dusk" ∷ [])) ++ (rows modifier 0 (bytes "open" ∷ []))) (rows week 0 (bytes "week" ∷ [])) refl ∙ ap (λ w. or_else w (first_in (rows week 0 (bytes "week" ∷ [])) s i)) (more ((rows event 1 (bytes "dawn" ∷ [])) ++ (rows event 4 (bytes "dusk" ∷ []))) (rows modifier 0 (bytes "open" ∷ [])) refl ∙ ap (λ w. or_else w (first_in (rows modifier 0 (bytes "open" ∷ [])) s i)) (more ((rows event 1 (bytes "dawn" ∷ []))) (rows event 4 (bytes "dusk" ∷ [])) refl ∙ ap (λ w. or_else w (first_in (rows event 4 (bytes "dusk" ∷ [])) s i)) (first_is (rows event 1 (bytes "dawn" ∷ [])) refl))))
+
+    pub three_lem : first_of three s i ≡ or_else (or_else (first_in (rows modifier 1 (bytes "off" ∷ [])) s i) (first_in (rows day 0 (bytes "day" ∷ [])) s i)) (first_in (rows month 1 (bytes "jan" ∷ bytes "feb" ∷ bytes "mar" ∷ bytes "apr" ∷ bytes "may" ∷ bytes "jun" ∷ bytes "jul" ∷ bytes "aug" ∷ bytes "sep" ∷ bytes "oct" ∷ bytes "nov" ∷ bytes "dec" ∷ [])) s i)
+    unfolding all_good is_letter_lem plain rows spelled_so within
+    three_lem = more ((rows modifier 1 (bytes "off" ∷ [])) ++ (rows day 0 (bytes "day" ∷ []))) (rows month 1 (bytes "jan" ∷ bytes "feb" ∷ bytes "mar" ∷ bytes "apr" ∷ bytes "may" ∷ bytes "jun" ∷ bytes "jul" ∷ bytes "aug" ∷ bytes "sep" ∷ bytes "oct" ∷ bytes "nov" ∷ bytes "dec" ∷ [])) refl ∙ ap (λ w. or_else w (first_in (rows month 1 (bytes "jan" ∷ bytes "feb" ∷ bytes "mar" ∷ bytes "apr" ∷ bytes "may" ∷ bytes "jun" ∷ bytes "jul" ∷ bytes "aug" ∷ bytes "sep" ∷ bytes "oct" ∷ bytes "nov" ∷ bytes "dec" ∷ [])) s i)) (more ((rows modifier 1 (bytes "off" ∷ []))) (rows day 0 (bytes "day" ∷ [])) refl ∙ ap (λ w. or_else w (first_in (rows day 0 (bytes "day" ∷ [])) s i)) (first_is (rows modifier 1 (bytes "off" ∷ [])) refl))
+
+    pub two_lem : first_of two s i ≡ or_else (first_in (rows weekday 1 (bytes "mo" ∷ bytes "tu" ∷ bytes "we" ∷ bytes "th" ∷ bytes "fr" ∷ bytes "sa" ∷ bytes "su" ∷ [])) s i) (first_in (rows holiday 1 (bytes "PH" ∷ bytes "SH" ∷ [])) s i)
+    unfolding all_good is_letter_lem plain rows spelled_so within
+    two_lem = more ((rows weekday 1 (bytes "mo" ∷ bytes "tu" ∷ bytes "we" ∷ bytes "th" ∷ bytes "fr" ∷ bytes "sa" ∷ bytes "su" ∷ []))) (rows holiday 1 (bytes "PH" ∷ bytes "SH" ∷ [])) refl ∙ ap (λ w. or_else w (first_in (rows holiday 1 (bytes "PH" ∷ bytes "SH" ∷ [])) s i)) (first_is (rows weekday 1 (bytes "mo" ∷ bytes "tu" ∷ bytes "we" ∷ bytes "th" ∷ bytes "fr" ∷ bytes "sa" ∷ bytes "su" ∷ [])) refl)
 
     -- the groups from the longest names on, and the next
     pub four_or_more_lem : first_of four_or_more s i ≡ or_else (or_else (first_of seven s i) (first_of six s i)) (first_of four s i)
@@ -120,9 +133,9 @@ module _ (s : List ℕ) where
     pub three_or_more_lem : first_of three_or_more s i ≡ or_else (first_of four_or_more s i) (first_of three s i)
     three_or_more_lem = first_append four_or_more three
 
-    pub two_or_more : word s i ≡ or_else (first_of three_or_more s i) (first_of two s i)
+    pub two_or_more_lem : word s i ≡ or_else (first_of three_or_more s i) (first_of two s i)
     unfolding word names
-    two_or_more = first_append three_or_more two
+    two_or_more_lem = first_append three_or_more two
 
     -- no name of more than k letters stands where the byte k after its place is below the letters
     module _ (k : ℕ) (h : get_or s (i + k) 0 < 65) where

@@ -1,5 +1,7 @@
 -- The refusal numbers: the rows of the rules' table (docs/RULES.md, 6).
 use Rattle.std.specs.Prelude.{ℕ}
+use Rattle.names.specs.declared.refusals.Reason.{Reason}
+use Rattle.names.specs.declared.refusals.Reason.TheVariants as reason
 
 -- over 4,096 bytes
 abbrev pub too_long : ℕ
@@ -68,3 +70,22 @@ house_order = 23
 -- the greatest that the rules of a text are refused by: 19 is given before anything is read, 22 and 23 after all rules are
 abbrev pub greatest : ℕ
 greatest = ill_formed_comment
+
+-- the number of a reason
+abbrev pub number : Reason → ℕ
+number reason.TooLong = too_long
+number reason.NoPart = no_part
+number reason.NoShape = no_shape
+number reason.Range = range
+number reason.WeekStep = week_step
+number reason.YearsInverted = years_inverted
+number reason.WeeksInverted = weeks_inverted
+number reason.PointInTime = point_in_time
+number reason.EasterDay = easter_day
+number reason.NoRoom = no_room
+number reason.EmptyRule = empty_rule
+number reason.BrokenQuote = broken_quote
+number reason.IllFormedComment = ill_formed_comment
+number reason.UnknownEdition = unknown_edition
+number reason.HouseForm = house_form
+number reason.HouseOrder = house_order

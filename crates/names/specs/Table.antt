@@ -1,5 +1,5 @@
 -- The names as the code writes and compares them.
-use Rattle.std.specs.Prelude.{ℕ, zero, suc, ◌+◌, List, [], ◌∷◌, Bool, true, ◌&&◌, eqb, ltb, length, get_or, take, drop, if◌then◌else◌}
+use Rattle.std.specs.Prelude.{ℕ, ◌+◌, List, [], ◌∷◌, Bool, true, ◌&&◌, eqb, length, get_or, if◌then◌else◌}
 use Rattle.std.specs.Int.Bits.{bit_or}
 use Rattle.names.specs.Read.{Read, got, none, refused, Reader}
 use Rattle.names.specs.Names.{Row, Word, spelled_so}
@@ -28,14 +28,7 @@ or_else (got w j) r = got w j
 or_else none r = r
 or_else (refused k p) r = refused k p
 
--- the names of a kind that are written from a place on, n letters each with a blank between them: the first has the value v, each later one 1 more.
--- With the fuel m, at most m names
-unfoldable pub rows_in : ℕ → ℕ → ℕ → ℕ → List ℕ → ℕ → List Row
-rows_in zero n kind v xs from = []
-rows_in (suc m) n kind v xs from =
-    if ltb (length xs) (from + n) then []
-    else (take n (drop from xs), (kind, v)) ∷ rows_in m n kind (v + 1) xs (from + (n + 1))
-
--- all of them, with fuel enough
-unfoldable pub rows : ℕ → ℕ → ℕ → List ℕ → List Row
-rows n kind v xs = rows_in (suc (length xs)) n kind v xs 0
+-- these names of a kind: the first has the value v, each later one 1 more
+unfoldable pub rows : ℕ → ℕ → List (List ℕ) → List Row
+rows kind v [] = []
+rows kind v (x ∷ xs) = (x, (kind, v)) ∷ rows kind (v + 1) xs

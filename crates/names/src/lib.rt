@@ -8,12 +8,7 @@ mod table;
 mod tests;
 mod texts;
 
-pub use refusals::{
-    BROKEN_QUOTE, EASTER_DAY, EMPTY_RULE, HOUSE_FORM, HOUSE_ORDER, ILL_FORMED_COMMENT, NO_PART,
-    NO_ROOM, NO_SHAPE, POINT_IN_TIME, RANGE, TOO_LONG, UNKNOWN_EDITION, WEEK_STEP, WEEKS_INVERTED,
-    YEARS_INVERTED,
-};
-pub use table::{DAY, EASTER, EVENT, HOLIDAY, MODIFIER, MONTH, WEEK, WEEKDAY};
+pub use refusals::{Reason, Refusal};
 pub use tests::within;
 
 // How a text is read: by the first edition of the rules; by the second, which takes more shapes; or as a house sheet, by the first and judged by the house profile besides.
@@ -30,37 +25,36 @@ pub struct Cursor {
     pub at: usize,
 }
 
-// The place after a sign, a blank or a comma, or no such shape.
-#[derive(Clone, Copy)]
-pub enum Step {
-    Got(Cursor),
-    Missing,
+// The kinds of names.
+#[derive(Clone, Copy, PartialEq, Eq)]
+pub enum NameKind {
+    Weekday = 1,
+    Month,
+    Event,
+    Easter,
+    Modifier,
+    Holiday,
+    Week,
+    Day,
 }
 
-// A number and the place after it, or no such shape.
+// A name: its kind, and which of its kind it is.
 #[derive(Clone, Copy)]
-pub enum Num {
-    Got(u32, Cursor),
-    Missing,
+pub struct Word {
+    pub kind: NameKind,
+    pub value: u8,
 }
 
-// A name's kind, which of its kind it is, and the place after it, or no name.
+// Which name of a kind it is, and whether it calls for a warning.
 #[derive(Clone, Copy)]
-pub enum Word {
-    Got(u8, u8, Cursor),
-    Missing,
+pub struct Named {
+    pub value: u8,
+    pub odd: bool,
 }
 
-// Which name of a kind stands at a place, whether it calls for a warning, and the place after it, or no such name.
+// A name of any kind, and whether it calls for a warning.
 #[derive(Clone, Copy)]
-pub enum Named {
-    Got(u8, bool, Cursor),
-    Missing,
-}
-
-// The same of a name of any kind, with its kind first.
-#[derive(Clone, Copy)]
-pub enum Spelled {
-    Got(u8, u8, bool, Cursor),
-    Missing,
+pub struct Spelled {
+    pub word: Word,
+    pub odd: bool,
 }

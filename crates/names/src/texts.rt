@@ -6,7 +6,7 @@ ghost use Rattle.names.specs.Chain as chain;
 ghost use Rattle.names.specs.Texts as texts;
 ghost use Rattle.names.specs.Seen.{seen_step};
 
-use crate::{Cursor, Step};
+use crate::Cursor;
 
 impl Cursor {
     // The byte at the cursor, and 0 past the end.
@@ -18,36 +18,32 @@ impl Cursor {
     }
 
     // This byte.
-    pub fn sign(self, s: &[u8], b: u8) -> Step
+    pub fn sign(self, s: &[u8], b: u8) -> Option<Cursor>
         ensures { texts.byte b s.now self.at ≡ seen_step result }
     {
         let at = self.at;
         if s.len() <= at {
-            return Step::Missing;
+            return None;
         }
         if b != s[at] {
-            return Step::Missing;
+            return None;
         }
-        Step::Got(Cursor { at: at + 1 })
+        Some(Cursor { at: at + 1 })
     }
 
     // The place after bytes from lo to hi, as many as there are.
     pub fn skip(self, s: &[u8], lo: u8, hi: u8) -> Cursor
         ensures { chain.skip (within lo hi) s.now self.at ≡ got tt result.at }
     {
-        let mut at = self.at;
-        while at < s.len() {
-            let b = s[at];
-            if lo <= b {
-                if hi < b {
-                    return Cursor { at };
-                }
-                at += 1;
-            } else {
+        for at in self.at..s.len() {
+            if !(lo..=hi).contains(&s[at]) {
                 return Cursor { at };
             }
         }
-        Cursor { at }
+        // Where the text has ended before the cursor, it stays.
+        Cursor {
+            at: self.at.max(s.len()),
+        }
     }
 
     // The place after bytes 32, or none.
@@ -58,28 +54,20 @@ impl Cursor {
     }
 
     // A blank: one or more bytes 32.
-    pub fn blank(self, s: &[u8]) -> Step
+    #[tactic(auto, unfolding(crate::specs::Texts::blank))]
+    pub fn blank(self, s: &[u8]) -> Option<Cursor>
         ensures { texts.blank s.now self.at ≡ seen_step result }
     {
-        let first = self.sign(s, b' ');
-        let Step::Got(c) = first else {
-            return first;
-        };
-        Step::Got(c.blanks(s))
+        let c = self.sign(s, b' ')?;
+        Some(c.blanks(s))
     }
 
     // A comma of a list: no blank follows it.
-    pub fn comma(self, s: &[u8]) -> Step
+    #[tactic(auto, unfolding(crate::specs::Texts::comma, crate::specs::Read::ahead))]
+    pub fn comma(self, s: &[u8]) -> Option<Cursor>
         ensures { texts.comma s.now self.at ≡ seen_step result }
     {
-        let first = self.sign(s, b',');
-        let Step::Got(c) = first else {
-            return first;
-        };
-        if c.byte(s) == b' ' {
-            Step::Missing
-        } else {
-            Step::Got(c)
-        }
+        let c = self.sign(s, b',')?;
+        if c.byte(s) == b' ' { None } else { Some(c) }
     }
 }

@@ -1,5 +1,7 @@
 -- Which bytes a note is, for each way its numbers can be.
-use Rattle.std.specs.Prelude.{if◌then◌else◌}
+use Rattle.std.specs.Prelude.{if◌then◌else◌, Option, Some, None, Result, Ok, Err}
+use Rattle.std.specs.Int.{FitsUnsignedBits}
+use Rattle.std.specs.Result.{OkIff, result_ok}
 use Prim.Native.Nat.{ℕ, ◌+◌, ◌-◌, ◌≤◌, ◌<◌}
 use mathlib.Core.List.{List}
 use mathlib.Core.Bool.{Bool, true, false, true≢false}
@@ -9,12 +11,14 @@ use native.Mathlib.Decide.{dec_lt}
 use native.Mathlib.Nat.{add_comm}
 use mir.Syntax.{w32}
 use mir.Val.{SFits, of_z, to_z}
+use mir.Facts.{to_z-of_z}
 use lib.IntN.{ℤ, pos, negsuc, nat_abs}
-use lib.Dec.{T, eqb, leb}
-use lib.Signed.{lt_z, mag, non_neg}
+use lib.Dec.{eqb, leb}
 use lib.ListN.{length, take, drop}
-use borrow.Author.Tests.{ne_eqb, le-ltb, le-leb, lt-leb}
-use Rattle.notes.specs.Notes.{Bytes, note_part, bytes_of, note_of, CutFrom}
+use borrow.Author.Tests.{ne_eqb, le-leb, lt-leb}
+use Rattle.notes.specs.declared.NotePart.{NotePart}
+use Rattle.notes.specs.declared.NotePart.TheVariants as part
+use Rattle.notes.specs.Notes.{Bytes, comment, note_part, numbers_of, bytes_of, note_of, CutFrom}
 
 -- what the machine reads back is 0 where the number is
 pub zero_is : (l : ℤ) → to_z w32 (of_z w32 l) ≡ l → of_z w32 l ≡ 0 → l ≡ pos 0
@@ -24,10 +28,49 @@ zero_is l e z = sym e ∙ ap (to_z w32) z
 pub zero_not : (l : ℤ) → (of_z w32 l ≡ 0 → ⊥) → l ≡ pos 0 → ⊥
 zero_not l h e = h (ap (of_z w32) e)
 
--- a number that is not below 0 is below 2,147,483,648, and may be added
-pub below : (a x : ℤ) → x ≡ a → lt_z x (pos 0) ≡ false → SFits w32 a → T (non_neg x) × (nat_abs x < 2147483648)
-below a (pos x) e n f = (tt, subst (λ (z : ℤ). mag z < 2147483648) (sym e) f.sfits)
-below a (negsuc x) e n f = absurd (true≢false n)
+-- ---- a number that is not below 0
+
+abbrev pub size_of : ℤ → Option ℕ
+size_of (pos n) = Some n
+size_of (negsuc n) = None
+
+-- the code's conversion tells it
+pub size_is : {E : Type 0} (z : ℤ) → SFits w32 z → (r : Result ℕ E) → OkIff r (FitsUnsignedBits 64 (to_z w32 (of_z w32 z))) (nat_abs (to_z w32 (of_z w32 z))) → result_ok r ≡ size_of z
+size_is z f r h = told z f r (rw (to_z-of_z f) at h)
+  where
+    told : {E : Type 0} (z : ℤ) → SFits w32 z → (r : Result ℕ E) → OkIff r (FitsUnsignedBits 64 z) (nat_abs z) → result_ok r ≡ size_of z
+    told (pos n) f (Ok x) h = ap Some h.1
+    told (pos n) f (Err e) h = let k : n < 2147483648 = f.sfits in absurd (h (omega arith))
+    told (negsuc n) f (Ok x) h = absurd h.0
+    told (negsuc n) f (Err e) h = refl
+
+-- ---- where a comment stands
+
+module _ (sheet : ℕ) where
+  pub no_start : (a l : ℤ) → None ≡ size_of a → None ≡ comment sheet a l
+  unfolding comment
+  no_start (pos a) l e = cc
+  no_start (negsuc a) (pos l) e = refl
+  no_start (negsuc a) (negsuc l) e = refl
+
+  pub no_length : (a l : ℤ) → None ≡ size_of l → None ≡ comment sheet a l
+  unfolding comment
+  no_length a (pos l) e = cc
+  no_length (pos a) (negsuc l) e = refl
+  no_length (negsuc a) (negsuc l) e = refl
+
+  module _ {x y : ℕ} where
+    sized : (a l : ℤ) → Some x ≡ size_of a → Some y ≡ size_of l → comment sheet a l ≡ (if leb (x + y) sheet then Some (x, x + y) else None)
+    unfolding comment
+    sized (pos a) (pos l) d e = let p : x ≡ a = cc in let q : y ≡ l = cc in rw (p, q)
+    sized (negsuc a) l d e = cc
+    sized (pos a) (negsuc l) d e = cc
+
+    pub stands : (a l : ℤ) → Some x ≡ size_of a → Some y ≡ size_of l → x + y ≤ sheet → Some (x, x + y) ≡ comment sheet a l
+    stands a l d e k = rw (sized a l d e, le-leb _ _ k)
+
+    pub not_stands : (a l : ℤ) → Some x ≡ size_of a → Some y ≡ size_of l → sheet < x + y → None ≡ comment sheet a l
+    not_stands a l d e k = rw (sized a l d e, lt-leb _ _ k)
 
 module _ (sheet note : ℕ) where
   -- a length of 0
@@ -36,38 +79,29 @@ module _ (sheet note : ℕ) where
   noted_whole (pos a) l e = rw e
   noted_whole (negsuc a) l e = rw e
 
-  -- a start before the sheet
-  pub noted_before : (a l x : ℤ) → x ≡ a → (l ≡ pos 0 → ⊥) → lt_z x (pos 0) ≡ true → (false, (0, 0)) ≡ note_part sheet note a l
-  unfolding note_part
-  noted_before (pos a) l x e h n = absurd (true≢false (sym n ∙ ap (λ (z : ℤ). lt_z z (pos 0)) e ∙ le-ltb a 0 (omega arith)))
-  noted_before (negsuc a) (pos l) x e h n = rw (ne_eqb l 0 (λ z. h (ap pos z)))
-  noted_before (negsuc a) (negsuc l) x e h n = refl
+  -- any other: the comment where it stands in the sheet, or else the empty part
+  noted : Option (ℕ × ℕ) → Bool × (ℕ × ℕ)
+  noted (Some p) = (true, p)
+  noted None = (false, (0, 0))
 
-  -- a length below 0
-  pub noted_negative : (a l y : ℤ) → y ≡ l → lt_z y (pos 0) ≡ true → (false, (0, 0)) ≡ note_part sheet note a l
-  unfolding note_part
-  noted_negative a (pos l) y e n = absurd (true≢false (sym n ∙ ap (λ (z : ℤ). lt_z z (pos 0)) e ∙ le-ltb l 0 (omega arith)))
-  noted_negative (pos a) (negsuc l) y e n = refl
-  noted_negative (negsuc a) (negsuc l) y e n = refl
+  noted_other : (a l : ℤ) → (l ≡ pos 0 → ⊥) → note_part sheet note a l ≡ noted (comment sheet a l)
+  unfolding note_part comment noted
+  noted_other (pos a) (pos l) h = rw (ne_eqb l 0 (λ z. h (ap pos z))) (go (leb (a + l) sheet))
+    where
+      go : (t : Bool) → (if t then (true, (a, a + l)) else (false, (0, 0))) ≡ noted (if t then Some (a, a + l) else None)
+      go true = refl
+      go false = refl
+  noted_other (negsuc a) (pos l) h = rw (ne_eqb l 0 (λ z. h (ap pos z)))
+  noted_other (pos a) (negsuc l) h = refl
+  noted_other (negsuc a) (negsuc l) h = refl
 
-  -- a number as the machine reads it back, which is not below 0
-  size : (a x : ℤ) → x ≡ a → lt_z x (pos 0) ≡ false → a ≡ pos (nat_abs x)
-  size (pos a) x e n = ap (λ (z : ℤ). pos (nat_abs z)) (sym e)
-  size (negsuc a) x e n = absurd (true≢false (sym (ap (λ (z : ℤ). lt_z z (pos 0)) e) ∙ n))
+  pub noted_comment : (a l : ℤ) (p : ℕ × ℕ) → (l ≡ pos 0 → ⊥) → Some p ≡ comment sheet a l → (true, p) ≡ note_part sheet note a l
+  unfolding noted
+  noted_comment a l p h e = rw (noted_other a l h, ← e)
 
-  module _ (a l x y : ℤ) (d : x ≡ a) (e : y ≡ l) (m : lt_z x (pos 0) ≡ false) (n : lt_z y (pos 0) ≡ false) (h : l ≡ pos 0 → ⊥) where
-    some : nat_abs y ≡ 0 → ⊥
-    some z = h (size l y e n ∙ ap pos z)
-
-    -- an end after the sheet
-    pub noted_past : sheet < nat_abs x + nat_abs y → (false, (0, 0)) ≡ note_part sheet note a l
-    unfolding note_part
-    noted_past k = rw (size a x d m, size l y e n, ne_eqb (nat_abs y) 0 some, lt-leb _ _ k)
-
-    -- a comment in it
-    pub noted_comment : nat_abs x + nat_abs y ≤ sheet → (true, (nat_abs x, nat_abs x + nat_abs y)) ≡ note_part sheet note a l
-    unfolding note_part
-    noted_comment k = rw (size a x d m, size l y e n, ne_eqb (nat_abs y) 0 some, le-leb _ _ k)
+  pub noted_empty : (a l : ℤ) → (l ≡ pos 0 → ⊥) → None ≡ comment sheet a l → (false, (0, 0)) ≡ note_part sheet note a l
+  unfolding noted
+  noted_empty a l h e = rw (noted_other a l h, ← e)
 
 -- a part of so many bytes
 abbrev Inside : ℕ → ℕ → Bool × (ℕ × ℕ) → Type 0
@@ -91,22 +125,39 @@ inside sheet note (negsuc a) (pos l) = go (eqb l 0)
 inside sheet note (pos a) (negsuc l) = (omega arith, omega arith)
 inside sheet note (negsuc a) (negsuc l) = (omega arith, omega arith)
 
-module _ (sheet note : ℕ) (a l : ℤ) {b : Bool} {from to : ℕ} (e : (b, (from, to)) ≡ note_part sheet note a l) where
-  -- in the sheet
-  pub in_sheet : b ≡ true → (from ≤ to) × (to ≤ sheet)
-  in_sheet t = subst (Inside sheet note) (sym e ∙ ap (λ (c : Bool). (c, (from, to))) t) (inside sheet note a l)
+-- the numbers as the machine reads them back
+pub as_read : (sheet note : ℕ) (a l : ℤ) {x : Bool × (ℕ × ℕ)} → SFits w32 a → SFits w32 l → x ≡ note_part sheet note (to_z w32 (of_z w32 a)) (to_z w32 (of_z w32 l)) → x ≡ note_part sheet note a l
+as_read sheet note a l f g e = rw (to_z-of_z f, to_z-of_z g) at e
+
+-- what the code says of its numbers
+abbrev pub Says : Bytes → Bytes → ℤ → ℤ → Bool × (ℕ × ℕ) → Type 0
+Says sheet note a l x = x ≡ note_part (length sheet.now) (length note.now) (to_z w32 (of_z w32 a)) (to_z w32 (of_z w32 l))
+
+module _ (sheet note : Bytes) (a l : ℤ) (f : SFits w32 a) (g : SFits w32 l) where
+  within : {x : Bool × (ℕ × ℕ)} → Says sheet note a l x → Inside (length sheet.now) (length note.now) x
+  within e = subst (Inside (length sheet.now) (length note.now)) (sym (as_read _ _ a l f g e)) (inside (length sheet.now) (length note.now) a l)
+
+  -- they stand in the sheet
+  pub in_sheet : {from to : ℕ} → Says sheet note a l (true, (from, to)) → (from ≤ to) × (to ≤ length sheet.now)
+  in_sheet e = within e
 
   -- or in the note
-  pub in_note : b ≡ false → (from ≤ to) × (to ≤ note)
-  in_note t = subst (Inside sheet note) (sym e ∙ ap (λ (c : Bool). (c, (from, to))) t) (inside sheet note a l)
+  pub in_note : {from to : ℕ} → Says sheet note a l (false, (from, to)) → (from ≤ to) × (to ≤ length note.now)
+  in_note e = within e
 
--- the bytes that are cut out by these numbers are the note
-module _ (sheet note : Bytes) (a l : ℤ) {b : Bool} {from to : ℕ} (e : (b, (from, to)) ≡ note_part (length sheet.now) (length note.now) a l) where
-  chosen : {p : ℕ × ℕ} {x : List ℕ} {c : Bool} → b ≡ c → CutFrom (bytes_of sheet note (c, (from, to))) p x → CutFrom (note_of sheet note a l) p x
-  chosen {p} {x} t h = subst (λ (r : Bool × (ℕ × ℕ)). CutFrom (bytes_of sheet note r) p x) (sym (ap (λ (c : Bool). (c, (from, to))) t) ∙ e) h
+  -- and the bytes that are cut out by them are the note
+  cut : {r : Bool × (ℕ × ℕ)} {p : ℕ × ℕ} {x : List ℕ} → Says sheet note a l r → CutFrom (bytes_of sheet note r) p x → CutFrom (note_of sheet note a l) p x
+  cut {p = p} {x} e h = subst (λ (r : Bool × (ℕ × ℕ)). CutFrom (bytes_of sheet note r) p x) (as_read _ _ a l f g e) h
 
-  pub cut_sheet : b ≡ true → CutFrom (note_of sheet note a l) (sheet.ref_ptr.0, from + sheet.ref_ptr.1) (take (to - from) (drop from sheet.now))
-  cut_sheet t = chosen t (ap (λ (i : ℕ). (sheet.ref_ptr.0, i)) (add_comm from sheet.ref_ptr.1), refl)
+  pub cut_sheet : {from to : ℕ} → Says sheet note a l (true, (from, to)) → CutFrom (note_of sheet note a l) (sheet.ref_ptr.0, from + sheet.ref_ptr.1) (take (to - from) (drop from sheet.now))
+  cut_sheet {from} e = cut e (ap (λ (i : ℕ). (sheet.ref_ptr.0, i)) (add_comm from sheet.ref_ptr.1), refl)
 
-  pub cut_note : b ≡ false → CutFrom (note_of sheet note a l) (note.ref_ptr.0, from + note.ref_ptr.1) (take (to - from) (drop from note.now))
-  cut_note t = chosen t (ap (λ (i : ℕ). (note.ref_ptr.0, i)) (add_comm from note.ref_ptr.1), refl)
+  pub cut_note : {from to : ℕ} → Says sheet note a l (false, (from, to)) → CutFrom (note_of sheet note a l) (note.ref_ptr.0, from + note.ref_ptr.1) (take (to - from) (drop from note.now))
+  cut_note {from} e = cut e (ap (λ (i : ℕ). (note.ref_ptr.0, i)) (add_comm from note.ref_ptr.1), refl)
+
+-- parts of the same numbers are the same part
+pub same_part : (x y : NotePart) → numbers_of x ≡ numbers_of y → x ≡ y
+same_part (part.Sheet a b) (part.Sheet c d) e = ap (λ (n : Bool × (ℕ × ℕ)). part.Sheet n.1.0 n.1.1) e
+same_part (part.Sheet a b) (part.Standing c d) e = absurd (true≢false (ap (λ (n : Bool × (ℕ × ℕ)). n.0) e))
+same_part (part.Standing a b) (part.Sheet c d) e = absurd (true≢false (sym (ap (λ (n : Bool × (ℕ × ℕ)). n.0) e)))
+same_part (part.Standing a b) (part.Standing c d) e = ap (λ (n : Bool × (ℕ × ℕ)). part.Standing n.1.0 n.1.1) e

@@ -1,7 +1,9 @@
 -- The note shown for a rule: the lent bytes, no copy (docs/RULES.md, 6).
-use Rattle.std.specs.Prelude.{ℕ, ◌+◌, ◌-◌, List, Bool, true, false, ◌≡◌, leb, eqb, ℤ, pos, negsuc, length, take, drop, if◌then◌else◌}
+use Rattle.std.specs.Prelude.{ℕ, ◌+◌, ◌-◌, List, Bool, true, false, ◌≡◌, leb, eqb, ℤ, pos, negsuc, length, take, drop, if◌then◌else◌, Option, Some, None}
+use Rattle.std.specs.declared.ops.Range.{Range}
 use Rattle.std.specs.Borrow.{Bor}
 use Rattle.notes.specs.declared.NotePart.{NotePart}
+use Rattle.notes.specs.declared.NotePart.TheVariants as part
 
 -- lent bytes
 abbrev pub Bytes : Type 0
@@ -16,9 +18,22 @@ note_part sheet note (negsuc a) (pos n) = if eqb n 0 then (false, (0, note)) els
 note_part sheet note (pos a) (negsuc n) = (false, (0, 0))
 note_part sheet note (negsuc a) (negsuc n) = (false, (0, 0))
 
+-- where a comment stands in a sheet of so many bytes, by its start and its length
+unfoldable pub comment : ℕ → ℤ → ℤ → Option (ℕ × ℕ)
+comment sheet (pos a) (pos n) = if leb (a + n) sheet then Some (a, a + n) else None
+comment sheet (negsuc a) (pos n) = None
+comment sheet (pos a) (negsuc n) = None
+comment sheet (negsuc a) (negsuc n) = None
+
+-- this, out of the code's answer
+abbrev pub place_of : Option (Range ℕ) → Option (ℕ × ℕ)
+place_of (Some r) = Some (r.start, r.end)
+place_of None = None
+
 -- these numbers, out of the code's answer
 abbrev pub numbers_of : NotePart → Bool × (ℕ × ℕ)
-numbers_of x = (x.sheets, (x.from, x.to))
+numbers_of (part.Sheet a e) = (true, (a, e))
+numbers_of (part.Standing a e) = (false, (a, e))
 
 -- the sheet's bytes or the note's
 abbrev pub bytes_of : Bytes → Bytes → Bool × (ℕ × ℕ) → Bytes × (ℕ × ℕ)

@@ -4,19 +4,23 @@
 ghost use Rattle.std.specs.Prelude.{◌≡◌};
 ghost use Rattle.notes.specs.Notes as notes;
 
+use std::ops::Range;
+
 // Which bytes a note is: the sheet's, or else the standing note's, from where and to where.
+// (Two numbers, and no range: a range is not copied.)
 #[derive(Clone, Copy)]
-pub struct NotePart {
-    pub sheets: bool,
-    pub from: usize,
-    pub to: usize,
+pub enum NotePart {
+    Sheet { from: usize, to: usize },
+    Standing { from: usize, to: usize },
 }
 
-// A part of the sheet, or else of the standing note.
-fn part_of(sheets: bool, from: usize, to: usize) -> NotePart
-    ensures { notes.numbers_of result ≡ (sheets, (from, to)) }
+// Where a comment stands in a sheet of so many bytes, by its numbers.
+fn comment(sheet: usize, start: i32, length: i32) -> Option<Range<usize>>
+    ensures { notes.place_of result ≡ notes.comment sheet start length }
 {
-    NotePart { sheets, from, to }
+    let from = usize::try_from(start).ok()?;
+    let to = from + usize::try_from(length).ok()?;
+    if to <= sheet { Some(from..to) } else { None }
 }
 
 // Which part of the sheet, or else of the caller's standing note, it is, by their lengths.
@@ -24,21 +28,17 @@ pub fn note_part(sheet: usize, standing: usize, start: i32, length: i32) -> Note
     ensures { notes.numbers_of result ≡ notes.note_part sheet standing start length }
 {
     if length == 0 {
-        return part_of(false, 0, standing);
+        return NotePart::Standing {
+            from: 0,
+            to: standing,
+        };
     }
-    let empty = part_of(false, 0, 0);
-    if start < 0 {
-        return empty;
-    }
-    if length < 0 {
-        return empty;
-    }
-    let a = start as usize;
-    let e = a + (length as usize);
-    if e <= sheet {
-        part_of(true, a, e)
-    } else {
-        empty
+    match comment(sheet, start, length) {
+        Some(Range { start, end }) => NotePart::Sheet {
+            from: start,
+            to: end,
+        },
+        None => NotePart::Standing { from: 0, to: 0 },
     }
 }
 
@@ -46,12 +46,8 @@ pub fn note_part(sheet: usize, standing: usize, start: i32, length: i32) -> Note
 pub fn note<'a>(sheet: &'a [u8], standing: &'a [u8], start: i32, length: i32) -> &'a [u8]
     ensures { notes.CutFrom (notes.note_of sheet.entry standing.entry start length) result.ref_ptr result.now }
 {
-    let p = note_part(sheet.len(), standing.len(), start, length);
-    let a = p.from;
-    let e = p.to;
-    if p.sheets {
-        &sheet[a..e]
-    } else {
-        &standing[a..e]
+    match note_part(sheet.len(), standing.len(), start, length) {
+        NotePart::Sheet { from, to } => &sheet[from..to],
+        NotePart::Standing { from, to } => &standing[from..to],
     }
 }

@@ -8,7 +8,9 @@ use native.Mathlib.Omega.{arith}
 use native.Mathlib.Numerals.{add-one}
 use lib.Dec.{eqb}
 use lib.ListN.{length, get_or, take, drop, drop_of_length-le, get_or-eq_default}
-use lib.Seq.{take-suc, drop-cons}
+use lib.Seq.{take-suc, drop-cons, length-take-le, get_or-take}
+use Rattle.std.specs.List.{slice_range}
+use Rattle.std.proofs.lemmas.List.{take-take}
 use borrow.Author.Tests.{ne_eqb}
 use Rattle.names.specs.Quotes.{flips, inside_of}
 use Rattle.parts.specs.Parts.{part_in, part_end, begins}
@@ -56,8 +58,9 @@ one_more inside s i a e =
     omega arith
 
 -- a `;` inside is a byte like another
-pub part_quoted : (inside : Bool) (s : List ℕ) (i : ℕ) → i < length s → get_or s i 0 ≡ 59 → inside ≡ true → i + part_in inside (drop i s) ≡ (i + 1) + part_in inside (drop (i + 1) s)
-part_quoted inside s i h e o = one_more inside s i (part_in inside (drop i s)) (rw (part_at inside s i h, e, o))
+pub part_quoted : (inside next : Bool) (s : List ℕ) (i : ℕ) → i < length s → get_or s i 0 ≡ 59 → inside ≡ true → next ≡ inside →
+    i + part_in inside (drop i s) ≡ (i + 1) + part_in next (drop (i + 1) s)
+part_quoted inside next s i h e o t = one_more next s i (part_in inside (drop i s)) (rw (part_at inside s i h, e, o, t, o))
 
 -- and every other byte belongs to the part
 pub part_more : (inside next : Bool) (s : List ℕ) (i : ℕ) → i < length s → (get_or s i 0 ≡ 59 → ⊥) → next ≡ flips (get_or s i 0) inside →
@@ -80,16 +83,30 @@ unfolding begins
 begins_past s zero h = absurd (omega arith)
 begins_past s (suc i) h = let k : length s ≤ i = omega arith in rw (get_or-eq_default s 0 k)
 
--- past the sheet's beginning, the byte before a place and its side decide
-begins_at : (s : List ℕ) (p : ℕ) → (p ≡ 0 → ⊥) → begins s p ≡ (eqb (get_or s (p - 1) 0) 59 && not (inside_of (take (p - 1) s)))
+-- past the sheet's beginning, the last byte before a place and its side decide
+begins_at : (s : List ℕ) (p : ℕ) → p ≤ length s → 0 < p → begins s p ≡ (eqb (get_or (take p s) (p - 1) 0) 59 && not (inside_of (take (p - 1) (take p s))))
 unfolding begins
-begins_at s zero h = absurd (h refl)
-begins_at s (suc i) h = let e : i ≡ suc i - 1 = omega arith in ap (λ j. eqb (get_or s j 0) 59 && not (inside_of (take j s))) e
+begins_at s zero l h = absurd (omega arith)
+begins_at s (suc i) l h =
+    let e : suc i - 1 ≡ i = omega arith in
+    rw (e, get_or-take (suc i) s i 0 (omega arith), take-take i (suc i) s (omega arith))
 
--- after a `;` a part begins, if that stands outside
-pub begins_after : (s : List ℕ) (p : ℕ) (inside : Bool) → (p ≡ 0 → ⊥) → get_or s (p - 1) 0 ≡ 59 → inside ≡ inside_of (take (p - 1) s) → not inside ≡ begins s p
-begins_after s p inside h e o = rw (begins_at s p h, e, o)
+-- the bytes before a place, as the code cuts them out
+before_place : (s : List ℕ) (p : ℕ) → slice_range s 0 p ≡ take p s
+before_place s p = let e : p - 0 ≡ p = omega arith in rw e
 
--- and after no other byte
-pub begins_not_lem : (s : List ℕ) (p : ℕ) → (p ≡ 0 → ⊥) → (get_or s (p - 1) 0 ≡ 59 → ⊥) → false ≡ begins s p
-begins_not_lem s p h e = rw (begins_at s p h, ne_eqb (get_or s (p - 1) 0) 59 e)
+-- the bytes before a place, where one stands last
+module _ (s x : List ℕ) (p : ℕ) (e : x ≡ slice_range s 0 p) (l : p ≤ length s) (h : 1 ≤ length x) where
+  begins_last : begins s p ≡ (eqb (get_or x (length x - 1) 0) 59 && not (inside_of (take (length x - 1) x)))
+  begins_last =
+      let q = e ∙ before_place s p in
+      let n : length x ≡ p = ap length q ∙ length-take-le p s l in
+      rw (n, q) (begins_at s p l (omega arith))
+
+  -- after a `;` a part begins, if that stands outside
+  pub begins_after : (inside : Bool) → get_or x (length x - 1) 0 ≡ 59 → inside ≡ inside_of (take (length x - 1) x) → not inside ≡ begins s p
+  begins_after inside q o = rw (begins_last, q, o)
+
+  -- and after no other byte
+  pub begins_not_lem : (get_or x (length x - 1) 0 ≡ 59 → ⊥) → eqb (get_or x (length x - 1) 0) 59 ≡ begins s p
+  begins_not_lem q = rw (begins_last, ne_eqb (get_or x (length x - 1) 0) 59 q)

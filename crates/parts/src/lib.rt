@@ -1,7 +1,7 @@
 // Parts: a quote flips inside and outside, a part ends at a `;` outside.
 #![tactic(auto)]
 
-ghost use Rattle.std.specs.Prelude.{◌≡◌, ◌≤◌, length, take};
+ghost use Rattle.std.specs.Prelude.{◌≡◌};
 ghost use Rattle.names.specs.Quotes as quotes;
 ghost use Rattle.parts.specs.Parts as parts;
 
@@ -12,16 +12,13 @@ pub fn flips(b: u8, inside: bool) -> bool
     if b == b'"' { !inside } else { inside }
 }
 
-// Whether the place i stands inside quotes.
-fn inside_of(s: &[u8], i: usize) -> bool
-    requires { i ≤ length s.now }
-    ensures { result ≡ quotes.inside_of (take i s.now) }
+// Whether the bytes of a text lead from outside to inside.
+fn inside_of(s: &[u8]) -> bool
+    ensures { result ≡ quotes.inside_of s.now }
 {
     let mut inside = false;
-    let mut k: usize = 0;
-    while k < i {
-        inside = flips(s[k], inside);
-        k += 1;
+    for b in s {
+        inside = flips(*b, inside);
     }
     inside
 }
@@ -30,17 +27,10 @@ fn inside_of(s: &[u8], i: usize) -> bool
 pub fn begins(s: &[u8], place: usize) -> bool
     ensures { result ≡ parts.begins s.now place }
 {
-    if place == 0 {
-        return true;
-    }
-    if s.len() < place {
-        return false;
-    }
-    let i = place - 1;
-    if s[i] == b';' {
-        !inside_of(s, i)
-    } else {
-        false
+    match s.get(..place) {
+        Some([]) => true,
+        Some([before @ .., last]) => *last == b';' && !inside_of(before),
+        None => false,
     }
 }
 
@@ -49,19 +39,14 @@ pub fn part_end(s: &[u8], p: usize) -> usize
     ensures { result ≡ parts.part_end s.now p }
 {
     let mut inside = false;
-    let mut i = p;
-    while i < s.len() {
+    for i in p..s.len() {
         let b = s[i];
-        if b == b';' {
-            if inside {
-                i += 1;
-            } else {
-                return i;
-            }
-        } else {
+        if b != b';' {
             inside = flips(b, inside);
-            i += 1;
+        } else if !inside {
+            return i;
         }
     }
-    i
+    // Where the text has ended before p, the part is empty.
+    p.max(s.len())
 }

@@ -1,30 +1,44 @@
--- A turn of the loop that writes a line.
-use Prim.Native.Nat.{ℕ, ◌+◌, ◌<◌, ◌≤◌}
+-- A line, by its numbers but the last.
+use Prim.Native.Nat.{ℕ}
 use Prim.Native.Char.{code}
-use mathlib.Core.List.{List, [], ◌∷◌, ◌++◌}
-use mathlib.Core.Path.{◌≡◌}
-use native.Mathlib.Numerals.{add-one}
-use lib.IntN.{ℤ, pos}
-use lib.ListN.{length, get_or, drop, drop_of_length-le}
-use lib.Seq.{drop-cons}
+use mathlib.Core.List.{List, [], ◌∷◌, ◌++◌, append_assoc, append-nil}
+use mathlib.Core.Path.{◌≡◌, refl}
+use lib.IntN.{ℤ}
+use lib.ListN.{length}
+use native.Mathlib.Omega.{arith}
 use Rattle.prints.specs.Decimals.{signed}
-use Rattle.prints.specs.Lines.{after, line}
+use Rattle.prints.specs.Lines.{after, line, lines}
 
-module _ (ws : List ℤ) (i : ℕ) where
-  -- what is left of a line is a number, the byte after it and the rest
-  pub line_more : i < length ws → line (drop i ws) ≡ signed (get_or ws i (pos 0)) ++ (after (drop (i + 1) ws) ∷ line (drop (i + 1) ws))
-  unfolding line
-  line_more h = rw (add-one, drop-cons ws i (pos 0) h)
+-- numbers, a space after each
+unfoldable pub spaced : List ℤ → List ℕ
+spaced [] = []
+spaced (z ∷ zs) = signed z ++ (code " " ∷ spaced zs)
 
-  -- a space before more numbers
-  pub after_more : i < length ws → code " " ≡ after (drop i ws)
-  after_more h = rw (drop-cons ws i (pos 0) h)
+-- one more
+pub spaced_more : (zs : List ℤ) (z : ℤ) → spaced (zs ++ z ∷ []) ≡ (spaced zs ++ signed z) ++ (code " " ∷ [])
+unfolding spaced
+spaced_more [] z = refl
+spaced_more (y ∷ ys) z = rw (spaced_more ys z) (simp append_assoc)
 
-  -- the line's end after the last
-  pub after_last : length ws ≤ i → code "\n" ≡ after (drop i ws)
-  after_last h = rw (drop_of_length-le ws h)
+-- a space stands before another
+after_more : (zs : List ℤ) (z : ℤ) → after (zs ++ z ∷ []) ≡ code " "
+after_more [] z = refl
+after_more (y ∷ ys) z = refl
 
-  -- nothing is left then
-  pub line_end_lem : length ws ≤ i → line (drop i ws) ≡ []
-  unfolding line
-  line_end_lem h = rw (drop_of_length-le ws h)
+-- the last, and the line's end
+pub line_of : (zs : List ℤ) (z : ℤ) → line (zs ++ z ∷ []) ≡ (spaced zs ++ signed z) ++ (code "\n" ∷ [])
+unfolding line spaced
+line_of [] z = refl
+line_of (y ∷ ys) z = rw (after_more ys z, line_of ys z) (simp append_assoc)
+
+-- no numbers
+pub line_none : (zs : List ℤ) → length zs ≡ 0 → [] ≡ line zs
+unfolding line
+line_none [] h = refl
+line_none (z ∷ zs) h = absurd (omega arith)
+
+-- the lines of one record more
+pub lines_more : (rs : List (List ℤ)) (r : List ℤ) → lines (rs ++ r ∷ []) ≡ lines rs ++ line r
+unfolding lines
+lines_more [] r = append-nil _
+lines_more (s ∷ rs) r = rw (lines_more rs r) (simp append_assoc)

@@ -5,7 +5,8 @@ use mathlib.Core.Path.{◌≡◌, refl, sym, ap, ◌∙◌}
 use native.Mathlib.Omega.{arith, min_cases}
 use lib.ListN.{length, set, length-append}
 use lib.Seq.{sets, set_out, length-sets}
-use Rattle.prints.specs.Pens.{largest, wrote}
+use Rattle.prints.specs.declared.pens.Pen.{Pen}
+use Rattle.prints.specs.Pens.{largest, wrote, Writes}
 
 -- stores past the end change nothing
 sets_out : (t : List ℕ) (i : ℕ) (vs : List ℕ) → length t ≤ i → sets t i vs ≡ t
@@ -33,34 +34,18 @@ wrote_append x y at out {p} {o} h e =
     let s : sets (sets out at x) (min (at + length x) largest) y ≡ sets out at (x ++ y) = sets_largest (sets out at x) (at + length x) y (rw length-sets h) ∙ sym (sets_append x y out at) in
     rw (ep, eo, l, s)
 
--- both
-pub then : (x y : List ℕ) (at : ℕ) (out : List ℕ) {p q : ℕ} {o u : List ℕ} → length out ≤ largest → (p, o) ≡ wrote x at out → (q, u) ≡ wrote y p o → (q, u) ≡ wrote (x ++ y) at out
-then x y at out h e f = f ∙ wrote_append x y at out h e
+-- nothing is written where the pen stays
+pub nothing : (p : Pen) → p.at ≤ largest → length p.out.now ≤ largest → Writes [] p p
+nothing p h f = record { whole = let e : p.at ≡ min (p.at + 0) largest = omega arith in ap (λ (n : ℕ). (n, p.out.now)) e; lent = refl; fits = f }
 
--- ---- a loop that writes a text piece by piece
+-- two texts, one after the other
+pub then : {x y : List ℕ} {p q r : Pen} → Writes x p q → Writes y q r → Writes (x ++ y) p r
+then {x} {y} {p} {q} {r} a b = record { whole = b.whole ∙ wrote_append x y p.at p.out.now a.fits a.whole; lent = b.lent ∙ a.lent; fits = a.fits }
 
--- of a text that is written from `at` over `out`, this is left at the place p, over the bytes o
-pub record Left (text : List ℕ) (at : ℕ) (out : List ℕ) (p : ℕ) (o rest : List ℕ) : Type 0 where
-  pub same : length o ≡ length out
-  pub counted : p ≤ largest
-  pub whole : wrote rest p o ≡ wrote text at out
+-- a text in other words
+pub same : {x y : List ℕ} {p q : Pen} → Writes x p q → x ≡ y → Writes y p q
+same a e = rw e at a
 
--- before the first piece
-pub all_left : {text : List ℕ} {at : ℕ} {out : List ℕ} → at ≤ largest → Left text at out at out text
-all_left h = record { same = refl; counted = h; whole = refl }
-
-module _ {text : List ℕ} {at : ℕ} {out : List ℕ} {p : ℕ} {o : List ℕ} where
-  -- after a piece x, y is left
-  pub less_left : (x y : List ℕ) {rest : List ℕ} {q : ℕ} {u : List ℕ} → length out ≤ largest → Left text at out p o rest → rest ≡ x ++ y → (q, u) ≡ wrote x p o → Left text at out q u y
-  less_left x y {rest} {q} {u} h l r e =
-      let eq : q ≡ min (p + length x) largest = ap (λ r. r.0) e in
-      let eu : u ≡ sets o p x = ap (λ r. r.1) e in
-      record {
-        same = rw (eu, length-sets) l.same;
-        counted = omega arith;
-        whole = wrote_append x y p o (omega (arith, l.same)) e ∙ rw r at l.whole;
-      }
-
-  -- after the last
-  pub none_left : Left text at out p o [] → (p, o) ≡ wrote text at out
-  none_left l = let e : p ≡ min (p + 0) largest = omega (arith, l.counted) in ap (λ (n : ℕ). (n, o)) e ∙ l.whole
+-- the place moves by the text's length at most
+pub most : {x : List ℕ} {p q : Pen} → Writes x p q → q.at ≤ p.at + length x
+most {x} {p} {q} a = omega (arith, ap (λ r. r.0) a.whole)

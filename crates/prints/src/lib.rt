@@ -1,13 +1,11 @@
 // What the programs write: numbers and lines of numbers, into lent bytes (`Pen`) or to standard output, a blank or the line's end after each.
-// A write that fails ends what is printed, and its error is returned. And how they read their input (`read_full`).
+// A write that fails ends what is printed, and its error is returned. And how they read their input (`fill`).
 #![tactic(auto)]
 
 mod inputs;
 mod pens;
 
-ghost use Rattle.std.specs.Prelude.{◌≤◌, ◌≡◌, nat_abs, length};
-
-pub use inputs::read_full;
+pub use inputs::{Cut, fill, read_full};
 pub use pens::Pen;
 use std::io::Error;
 
@@ -17,36 +15,23 @@ pub fn print_number(rt: &impl Print, n: u64, end: u8) -> Result<(), Error> {
     rt.write_all(&[end])
 }
 
-// A word without its sign. (Below 0, `!w` is one less.)
-pub fn size(w: i32) -> u64
-    ensures { result ≡ nat_abs w }
-{
-    if w < 0 {
-        return (!w) as u64 + 1;
-    }
-    w as u64
-}
-
 // A record's words on a line, of 16 times 12 bytes at most.
-fn print_record(rt: &impl Print, words: &[i32]) -> Result<(), Error>
-    requires { length words.now ≤ 16 }
-{
+fn print_record(rt: &impl Print, words: &[i32; 16]) -> Result<(), Error> {
     let mut line = [0u8; 192];
-    let n = Pen { at: 0 }.put_line(&mut line, words).at;
+    let mut pen = Pen {
+        out: &mut line,
+        at: 0,
+    };
+    pen.put_line(words);
+    let n = pen.at;
     rt.write_all(&line[..n])
 }
 
-// The first n records of a table, each on a line; those that it has not are left out.
+// The first n records of a table, each on a line; those that it has not are left out. (A reading leaves the words after them as they were.)
 pub fn print_records(rt: &impl Print, table: &[i32], n: usize) -> Result<(), Error> {
-    let mut k = 0;
-    let mut at = 0;
-    while k < n {
-        if table.len() - at < 16 {
-            return Ok(());
-        }
-        print_record(rt, &table[at..at + 16])?;
-        at += 16;
-        k += 1;
+    let (records, _) = table.as_chunks::<16>();
+    for words in records.iter().take(n) {
+        print_record(rt, words)?;
     }
     Ok(())
 }
@@ -60,8 +45,8 @@ pub fn print_answer(
     warnings: usize,
     end: u8,
 ) -> Result<(), Error> {
-    print_number(rt, number as u64, 32)?;
-    print_number(rt, place as u64, 32)?;
-    print_number(rt, records as u64, 32)?;
+    print_number(rt, u64::from(number), b' ')?;
+    print_number(rt, place as u64, b' ')?;
+    print_number(rt, records as u64, b' ')?;
     print_number(rt, warnings as u64, end)
 }

@@ -1,4 +1,5 @@
 -- So the records of a sheet and of a part fit, where there are any.
+use Rattle.std.specs.Prelude.{None, Some}
 use Rattle.std.specs.Prelude.{if◌then◌else◌}
 use Prim.Native.Nat.{ℕ, suc, ◌/◌, ◌≤◌}
 use native.Mathlib.Omega.{arith}
@@ -12,8 +13,8 @@ use Rattle.names.specs.Read.{Read, got, none, refused}
 use Rattle.names.specs.Refusals.{no_room, too_long, no_part}
 use Rattle.names.specs.declared.Manner.{Manner}
 use Rattle.house.specs.Breaks.{judged_by, rules_break}
-use Rattle.house.specs.declared.Break.{Break}
-use Rattle.house.specs.declared.Break.TheVariants.{Nowhere, At}
+use Rattle.house.specs.Spans.{Break}
+use Rattle.names.specs.Refusals.{number}
 use Rattle.rules.specs.Rules.{Rule}
 use Rattle.text_rules.specs.Texts.{unbroken, judged_rules, records, warnings}
 use Rattle.tables.specs.Tables.{records_fit}
@@ -29,8 +30,8 @@ abbrev Fine : List Rule × Unit {0} → Type 0
 Fine r = records_fit (records r.0) ≡ true
 
 unbroken_only : (l : List Rule × Unit {0}) → Fine l → (b : Break) → Only (unbroken l b) Fine
-unbroken_only l p Nowhere = pure_only l p
-unbroken_only l p (At k q) = refuse_only k q
+unbroken_only l p None = pure_only l p
+unbroken_only l p (Some r) = refuse_only (number r.reason) r.place
 
 judged_only : (m : Manner) → Only (judged_rules m) Fine
 unfolding judged_rules

@@ -1,17 +1,16 @@
 -- A judgement reads nothing.
+use Rattle.std.specs.Prelude.{Ok, Err}
 use Prim.Native.Nat.{ℕ}
 use mathlib.Core.List.{List, []}
 use mathlib.Core.Path.{◌≡◌, refl}
 use Rattle.names.specs.Read.{Read, got, none, refused, Reader, follow, nothing, ◌>>=◌}
-use Rattle.records.specs.Items.{judged, meant, item}
+use Rattle.records.specs.Items.{Meant, judged, meant, item}
 use Rattle.records.specs.declared.Item.{Item}
-use Rattle.records.specs.declared.Meant.{Meant}
-use Rattle.records.specs.declared.Meant.TheVariants.{Is, Refused}
 
 -- so it is the same in any text
 pub judged_in : (p : ℕ) (x : Meant) (s t : List ℕ) (i : ℕ) → judged p x s i ≡ judged p x t i
-judged_in p (Is a) s t i = refl
-judged_in p (Refused k) s t i = refl
+judged_in p (Ok a) s t i = refl
+judged_in p (Err k) s t i = refl
 
 -- a shape that was read, judged
 pub meant_is : {R : Type 0} (p : ℕ) (shape : Reader R) (meaning : R → Meant) {s : List ℕ} {i : ℕ} {r : R} {j : ℕ} {x : Meant} {y : Read Item} →

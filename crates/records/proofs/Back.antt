@@ -1,5 +1,5 @@
 -- A record that fits has the words of its item.
-use Rattle.std.specs.Prelude.{if◌then◌else◌}
+use Rattle.std.specs.Prelude.{Some, None, if◌then◌else◌}
 use Prim.Native.Nat.{ℕ, zero, suc, ◌+◌, ◌<◌, ◌≤◌}
 use native.Mathlib.Omega.{arith}
 use native.Mathlib.Numerals.{towards_suc}
@@ -13,11 +13,10 @@ use lib.Signed.{non_neg, le_z}
 use lib.ListN.{length, drop, replicate, length-drop}
 use lib.Seq.{drop-cons}
 use Rattle.records.specs.Words.{date_words, time_words, repeat_word, bit, words_of, placed_at}
-use Rattle.records.specs.declared.Repeat.TheVariants.{Never, Every}
 use Rattle.records.specs.Ranges as ranges
 use Rattle.records.specs.Ranges.{Range, between, from, exactly, about, year, nth}
 use Rattle.records.specs.Fits.{word_at, passes, unused, is_kind, date_fits, time_fits, years_fit, months_fit, dates_fit, weeks_fit, weekdays_fit, holidays_fit, times_fit, item_fits}
-use Rattle.records.specs.Told.{up_to, signed_at, day_at, date_at, offset_at, time_at, repeat_at, years_in, months_in, dates_in, weeks_in, weekdays_in, holidays_in, times_in, candidate}
+use Rattle.records.specs.Told.{within, signed_at, repeat, day_at, date_at, offset_at, time_at, repeat_at, years_in, months_in, dates_in, weeks_in, weekdays_in, holidays_in, times_in, candidate}
 use Rattle.records.proofs.Tests.{both, either}
 use Rattle.records.proofs.WordLaws.{from_is, exactly_is, number_at_lem, year_at, signed_at_lem, nth_at}
 use Rattle.records.proofs.Sixteen.{cleared, placed_cleared, unused_zeros}
@@ -96,10 +95,10 @@ module _ (w : List ℤ) (k : ℕ) where
   time_words_lem last h e = either _ (passes (ranges.clock (pos last)) k w) (passes ranges.event k w) e (clock_words last h) event_words
 
 repeat_word_lem : (w : List ℤ) (k : ℕ) → between (negsuc 0) (pos 1439) (word_at w k) ≡ true → repeat_word (repeat_at w k) ≡ word_at w k
-unfolding repeat_at up_to between
+unfolding repeat within between
 repeat_word_lem w k e = go (word_at w k) e
   where
-    go : (x : ℤ) → (le_z (negsuc 0) x && le_z x (pos 1439)) ≡ true → repeat_word (if non_neg x then Every (if le_z (pos 0) x && le_z x (pos 65535) then nat_abs x else 0) else Never) ≡ x
+    go : (x : ℤ) → (le_z (negsuc 0) x && le_z x (pos 1439)) ≡ true → repeat_word (if non_neg x then Some (if le_z (pos 0) x && le_z x (pos 65535) then nat_abs x else 0) else None) ≡ x
     go (pos n) e = rw (le-leb 0 n (omega arith), le-leb n 65535 (omega (arith, leb-true n 1439 e)))
     go (negsuc zero) e = refl
     go (negsuc (suc n)) e = absurd (omega (arith, leb-true (suc n) 0 (both (leb (suc n) 0) e).0))

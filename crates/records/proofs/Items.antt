@@ -1,9 +1,8 @@
 -- What a record tells: the item of a record that fits is the one that has its words.
-use Rattle.std.specs.Prelude.{if◌then◌else◌}
+use Rattle.std.specs.Prelude.{Option, Some, None, if◌then◌else◌}
 use Prim.Native.Nat.{ℕ, ◌+◌}
 use native.Mathlib.Omega.{arith}
 use mathlib.Core.List.{List, [], ◌∷◌}
-use mathlib.Core.Option.{some}
 use mathlib.Core.Bool.{Bool, true, false}
 use mathlib.Core.Path.{◌≡◌, refl, sym, ap, ◌∙◌}
 use lib.Dec.{eqb}
@@ -16,8 +15,6 @@ use Rattle.records.specs.declared.Date.{Date}
 use Rattle.records.specs.declared.DateOffset.{DateOffset}
 use Rattle.records.specs.declared.Time.{Time}
 use Rattle.records.specs.declared.Time.TheVariants as time
-use Rattle.records.specs.declared.Repeat.{Repeat}
-use Rattle.records.specs.declared.Repeat.TheVariants.{Never, Every}
 use Rattle.records.specs.declared.Span.{Span}
 use Rattle.records.specs.declared.DateSpan.{DateSpan}
 use Rattle.records.specs.declared.Item.{Item}
@@ -43,9 +40,9 @@ day_by form m d n = if eqb form 1 then Fixed m d else if eqb form 2 then Weekday
 abbrev time_by : ℕ → ℤ → Time
 time_by kind x = if eqb kind 0 then time.Fixed (nat_of x) else if eqb kind 1 then time.Dawn x else if eqb kind 2 then time.Sunrise x else if eqb kind 3 then time.Sunset x else time.Dusk x
 
-abbrev repeat_by : ℤ → Repeat
-repeat_by (pos n) = Every n
-repeat_by (negsuc n) = Never
+abbrev repeat_by : ℤ → Option ℕ
+repeat_by (pos n) = Some n
+repeat_by (negsuc n) = None
 
 abbrev date_at : List ℤ → ℕ → Date
 date_at w k = record { year = nat w (k + 1); day = day_by (nat w k) (nat w (k + 2)) (nat w (k + 3)) (word_at w (k + 4)) }
@@ -77,9 +74,9 @@ raw w =
 
 -- ---- the words of an item tell it
 
-repeat_back : (r : Repeat) → repeat_by (repeat_word r) ≡ r
-repeat_back Never = refl
-repeat_back (Every m) = refl
+repeat_back : (r : Option ℕ) → repeat_by (repeat_word r) ≡ r
+repeat_back None = refl
+repeat_back (Some m) = refl
 
 bit_back : (b : Bool) → eqb (nat_of (bit b)) 1 ≡ b
 bit_back true = refl
@@ -118,7 +115,7 @@ times_back : (r : Span) → raw (words_of (Times r)) ≡ quiet (Times r)
 unfolding raw words_of
 times_back r = rw (time_words_lem r.start, time_words_lem r.end) (go (time_back r.start) (time_back r.end) (repeat_back r.repeats) (bit_back r.open_end) (bit_back r.point))
   where
-    go : {a b c d : Time} {x y : Repeat} {p q u v : Bool} → a ≡ b → c ≡ d → x ≡ y → p ≡ q → u ≡ v →
+    go : {a b c d : Time} {x y : Option ℕ} {p q u v : Bool} → a ≡ b → c ≡ d → x ≡ y → p ≡ q → u ≡ v →
         Times (record { start = a; end = c; repeats = x; open_end = p; point = u; odd_start = false; odd_end = false })
         ≡ Times (record { start = b; end = d; repeats = y; open_end = q; point = v; odd_start = false; odd_end = false })
     go e f g h i = rw (e, f, g, h, i)
@@ -195,22 +192,22 @@ quiet_told w = go (is_kind 2 w) (is_kind 3 w) (is_kind 4 w) (is_kind 5 w) (is_ki
     go false false false false false false = refl
 
 -- a record fits exactly if it tells an item
-pub told_fits : (w : List ℤ) (a : Item) → item_in w ≡ some a → (item_fits w ≡ true) × (candidate w ≡ a)
+pub told_fits : (w : List ℤ) (a : Item) → item_in w ≡ Some a → (item_fits w ≡ true) × (candidate w ≡ a)
 unfolding item_in
 told_fits w a e = go (item_fits w) refl e
   where
-    go : (t : Bool) → item_fits w ≡ t → given t (candidate w) ≡ some a → (item_fits w ≡ true) × (candidate w ≡ a)
+    go : (t : Bool) → item_fits w ≡ t → given t (candidate w) ≡ Some a → (item_fits w ≡ true) × (candidate w ≡ a)
     go true p q = (p, (cc))
     go false p q = let z : ◌≡◌ {A = ℕ} 0 1 = cc in absurd (omega arith)
 
-pub fits_told : (w : List ℤ) → item_fits w ≡ true → item_in w ≡ some (candidate w)
+pub fits_told : (w : List ℤ) → item_fits w ≡ true → item_in w ≡ Some (candidate w)
 unfolding item_in
 fits_told w e = rw e
 
 -- the item has the record's words, the place aside, and no spelling flag
-pub told_words : (w : List ℤ) (a : Item) → length w ≡ 16 → item_in w ≡ some a → (words_of a ≡ placed_at 0 w) × (quiet a ≡ a)
+pub told_words : (w : List ℤ) (a : Item) → length w ≡ 16 → item_in w ≡ Some a → (words_of a ≡ placed_at 0 w) × (quiet a ≡ a)
 told_words w a l e = let b = told_fits w a e in (rw b.1 at (item_words_lem w l b.0), rw b.1 at (quiet_told w))
 
 -- a record that fits and has an item's words, the place aside, tells it
-pub item_told : (w : List ℤ) (a : Item) → length w ≡ 16 → item_fits w ≡ true → placed_at 0 w ≡ words_of a → item_in w ≡ some (quiet a)
-item_told w a l e p = fits_told w e ∙ ap some (sym (quiet_told w) ∙ words_tell (candidate w) a (item_words_lem w l e ∙ p))
+pub item_told : (w : List ℤ) (a : Item) → length w ≡ 16 → item_fits w ≡ true → placed_at 0 w ≡ words_of a → item_in w ≡ Some (quiet a)
+item_told w a l e p = fits_told w e ∙ ap Some (sym (quiet_told w) ∙ words_tell (candidate w) a (item_words_lem w l e ∙ p))

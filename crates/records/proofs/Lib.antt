@@ -1,4 +1,5 @@
 pub mod Laws
+pub mod Arrays
 pub mod OneAnswer
 pub mod Cut
 pub mod Anywhere

@@ -1,9 +1,8 @@
 -- What was written is read back as it was, and what is read has just these words. No name of what is read calls for a warning.
-use Rattle.std.specs.Prelude.{if◌then◌else◌}
+use Rattle.std.specs.Prelude.{Option, Some, None, if◌then◌else◌}
 use Prim.Native.Nat.{ℕ, zero, suc, ◌+◌, ◌≤◌}
 use native.Mathlib.Omega.{arith}
 use mathlib.Core.List.{List, [], ◌∷◌, ◌++◌}
-use mathlib.Core.Option.{Option, none, some}
 use mathlib.Core.Bool.{Bool, true, false, ◌&&◌}
 use mathlib.Core.Path.{◌≡◌, refl, sym, ap, ◌∙◌}
 use lib.IntN.{ℤ, pos}
@@ -12,7 +11,7 @@ use lib.ListN.{length, drop}
 use Rattle.records.specs.Ranges as ranges
 use Rattle.records.specs.Ranges.{between, from, exactly, up}
 use Rattle.records.specs.Fits.{word_at, passes, unused, is_kind, head_fits, years_fit, months_fit, date_fits, dates_fit, weeks_fit, weekdays_fit, holidays_fit, time_fits, times_fit, item_fits}
-use Rattle.records.specs.Told.{up_to, byte_at, number_at, head_at, placed, item_in, record_in, quiet, quiet_head}
+use Rattle.records.specs.Told.{within, byte_at, number_at, head_at, placed, item_in, record_in, quiet, quiet_head}
 use Rattle.records.specs.Words.{record16, day_words, time_words, repeat_word, bit, words_of, placed_at, head_words, item_record}
 use Rattle.records.specs.declared.Day.{Day}
 use Rattle.records.specs.declared.Day.TheVariants.{Fixed, Weekday, Easter}
@@ -81,8 +80,8 @@ head_kind : exactly 1 (pos 1) ≡ true
 unfolding between
 head_kind = refl
 
-pub head_back : (h : Head) → h.separator ≤ 2 → h.state ≤ 2 → record_in (head_words h) ≡ tells.Head (quiet_head h)
-unfolding record_in head_words head_fits passes unused head_at up_to
+pub head_back : (h : Head) → h.separator ≤ 2 → h.state ≤ 2 → record_in (head_words h) ≡ Some (tells.Head (quiet_head h))
+unfolding record_in head_words head_fits passes unused head_at within
 head_back h e f =
     rw (
       head_kind,
@@ -98,7 +97,7 @@ place_of : (p : ℕ) (w : List ℤ) → length w ≡ 16 → (length (placed_at p
 place_of p =
     sixteen (λ w. (length (placed_at p w) ≡ 16) × (number_at (placed_at p w) 15 ≡ p)) (λ x0 x1 x2 x3 x4 x5 x6 x7 x8 x9 x10 x11 x12 x13 x14 x15. (refl, refl))
 
-pub item_back : (a : Item) (p : ℕ) → item_fits (item_record (a, p)) ≡ true → record_in (item_record (a, p)) ≡ tells.Item (quiet a) p
+pub item_back : (a : Item) (p : ℕ) → item_fits (item_record (a, p)) ≡ true → record_in (item_record (a, p)) ≡ Some (tells.Item (quiet a) p)
 unfolding record_in item_record
 item_back a p e =
     let w : List ℤ = placed_at p (words_of a) in
@@ -154,27 +153,27 @@ head_words_lem w l i e =
     ap (placed_at (number_at w 15)) (ws ∙ sym (placed_cleared w l)) ∙ placed_twice 0 (number_at w 15) w l ∙ own_place w l (head_up w l e)
 
 -- a record that tells a head is its
-pub head_read : (w : List ℤ) (h : Head) → length w ≡ 16 → record_in w ≡ tells.Head h → head_words h ≡ w
+pub head_read : (w : List ℤ) (h : Head) → length w ≡ 16 → record_in w ≡ Some (tells.Head h) → head_words h ≡ w
 unfolding record_in
 head_read w h l e = go (is_kind 1 w && head_fits w) refl e
   where
-    none_told : (o : Option Item) (n : ℕ) → placed o n ≡ tells.Head h → ⊥
-    none_told (some a) n q = let z : ◌≡◌ {A = ℕ} 0 1 = cc in omega arith
-    none_told none n q = let z : ◌≡◌ {A = ℕ} 0 1 = cc in omega arith
+    none_told : (o : Option Item) (n : ℕ) → placed o n ≡ Some (tells.Head h) → ⊥
+    none_told (Some a) n q = let z : ◌≡◌ {A = ℕ} 0 1 = cc in omega arith
+    none_told None n q = let z : ◌≡◌ {A = ℕ} 0 1 = cc in omega arith
 
-    go : (t : Bool) → (is_kind 1 w && head_fits w) ≡ t → (if t then tells.Head (head_at w) else placed (item_in w) (number_at w 15)) ≡ tells.Head h → head_words h ≡ w
+    go : (t : Bool) → (is_kind 1 w && head_fits w) ≡ t → (if t then Some (tells.Head (head_at w)) else placed (item_in w) (number_at w 15)) ≡ Some (tells.Head h) → head_words h ≡ w
     go true p q = let b = both (is_kind 1 w) p in let z : head_at w ≡ h = cc in rw z at (head_words_lem w l b.0 b.1)
     go false p q = absurd (none_told (item_in w) (number_at w 15) q)
 
 -- a record that tells an item at a place is its
-pub item_read : (w : List ℤ) (a : Item) (p : ℕ) → length w ≡ 16 → record_in w ≡ tells.Item a p → item_record (a, p) ≡ w
+pub item_read : (w : List ℤ) (a : Item) (p : ℕ) → length w ≡ 16 → record_in w ≡ Some (tells.Item a p) → item_record (a, p) ≡ w
 unfolding record_in item_record
 item_read w a p l e = go (is_kind 1 w && head_fits w) (item_in w) refl e
   where
-    go : (t : Bool) (o : Option Item) → item_in w ≡ o → (if t then tells.Head (head_at w) else placed o (number_at w 15)) ≡ tells.Item a p → placed_at p (words_of a) ≡ w
+    go : (t : Bool) (o : Option Item) → item_in w ≡ o → (if t then Some (tells.Head (head_at w)) else placed o (number_at w 15)) ≡ Some (tells.Item a p) → placed_at p (words_of a) ≡ w
     go true o q r = let z : ◌≡◌ {A = ℕ} 0 1 = cc in absurd (omega arith)
-    go false none q r = let z : ◌≡◌ {A = ℕ} 0 1 = cc in absurd (omega arith)
-    go false (some b) q r =
+    go false None q r = let z : ◌≡◌ {A = ℕ} 0 1 = cc in absurd (omega arith)
+    go false (Some b) q r =
         let x : b ≡ a = cc in
         let y : number_at w 15 ≡ p = cc in
         let u = (told_words w b l q).0 in

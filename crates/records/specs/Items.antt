@@ -1,14 +1,18 @@
 -- An item: its longest shape is read, and then judged (docs/RULES.md, 3).
-use Rattle.std.specs.Prelude.{ℕ, Bool, leb, ℤ, pos, neg_ℤ, if◌then◌else◌}
+use Rattle.std.specs.Prelude.{ℕ, Bool, leb, ℤ, pos, neg_ℤ, Result, Ok, Err, if◌then◌else◌}
 use Rattle.names.specs.Read.{Reader, pure, refuse, here, ◌>>=◌}
 use Rattle.records.specs.declared.Item.{Item}
-use Rattle.records.specs.declared.Meant.{Meant}
-use Rattle.records.specs.declared.Meant.TheVariants.{Is, Refused}
+use Rattle.names.specs.Refusals.{number}
+use Rattle.names.specs.declared.refusals.Reason.{Reason}
+
+-- what a shape comes to when it is judged: an item, or why it is refused
+abbrev pub Meant : Type 0
+Meant = Result Item Reason
 
 -- a judgement: the item, or a refusal at the item's first byte p
 abbrev pub judged : ℕ → Meant → Reader Item
-judged p (Is a) = pure a
-judged p (Refused k) = refuse k p
+judged p (Ok a) = pure a
+judged p (Err k) = refuse (number k) p
 
 -- the item that begins at p: a shape is read whole, and its meaning is judged
 abbrev pub meant : {R : Type 0} → ℕ → Reader R → (R → Meant) → Reader Item

@@ -1,11 +1,11 @@
 -- What an answer of the code says, in the definitions' terms.
-use Rattle.names.specs.Read.{Read, got, none, refused}
+use Rattle.std.specs.Prelude.{Option, Result}
+use Rattle.names.specs.Read.{Read}
+use Rattle.names.specs.Seen.{seen_judged}
+use Rattle.names.specs.declared.Cursor.{Cursor}
+use Rattle.names.specs.declared.refusals.Refusal.{Refusal}
 use Rattle.records.specs.declared.Item.{Item}
-use Rattle.records.specs.declared.ItemRead.{ItemRead}
-use Rattle.records.specs.declared.ItemRead.TheVariants.{Got, Missing, Refused}
 
 -- an item and the place after it
-abbrev pub seen_item : ItemRead → Read Item
-seen_item (Got a c) = got a c.at
-seen_item Missing = none
-seen_item (Refused k p) = refused k p
+abbrev pub seen_item : Result (Option (Item × Cursor)) Refusal → Read Item
+seen_item = seen_judged (λ a. a)

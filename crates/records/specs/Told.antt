@@ -1,6 +1,5 @@
 -- What a record tells: a head or an item, if it fits. Which names call for a warning is not told.
-use Rattle.std.specs.Prelude.{ℕ, ◌+◌, List, Bool, true, false, ◌&&◌, ℤ, pos, negsuc, nat_abs, if◌then◌else◌}
-use Rattle.std.proofs.Math.Option.{Option, none, some}
+use Rattle.std.specs.Prelude.{ℕ, ◌+◌, List, Bool, true, false, ◌&&◌, ℤ, pos, negsuc, nat_abs, Option, Some, None, if◌then◌else◌}
 use Rattle.std.specs.Int.Signed.{non_neg}
 use Rattle.records.specs.declared.Day.{Day}
 use Rattle.records.specs.declared.Day.TheVariants.{Fixed, Weekday, Easter}
@@ -9,8 +8,6 @@ use Rattle.records.specs.declared.DateOffset.{DateOffset}
 use Rattle.records.specs.declared.Odd.{Odd}
 use Rattle.records.specs.declared.Time.{Time}
 use Rattle.records.specs.declared.Time.TheVariants as time
-use Rattle.records.specs.declared.Repeat.{Repeat}
-use Rattle.records.specs.declared.Repeat.TheVariants.{Never, Every}
 use Rattle.records.specs.declared.Head.{Head}
 use Rattle.records.specs.declared.Item.{Item}
 use Rattle.records.specs.declared.Item.TheVariants.{Years, Months, Dates, Weeks, Weekdays, Holidays, Times}
@@ -18,15 +15,30 @@ use Rattle.records.specs.Ranges.{from, about, exactly}
 use Rattle.records.specs.Fits.{word_at, is_kind, head_fits, item_fits}
 use Rattle.records.specs.declared.Record.{Record}
 use Rattle.records.specs.declared.Record.TheVariants as tells
-use Rattle.records.specs.declared.Found.{Found}
-use Rattle.records.specs.declared.Found.TheVariants.{Is, Nothing}
 
--- word k as a number up to top, or as one with a sign; another word, which no range has, is taken as 0
-unfoldable pub up_to : ℕ → List ℤ → ℕ → ℕ
-up_to top w k = if from 0 top (word_at w k) then nat_abs (word_at w k) else 0
+-- a word as a number up to top, or as one with a sign; another word, which no range has, is taken as 0
+unfoldable pub within : ℕ → ℤ → ℕ
+within top x = if from 0 top x then nat_abs x else 0
 
-unfoldable pub signed_at : List ℤ → ℕ → ℤ
-signed_at w k = if about 32767 (word_at w k) then word_at w k else pos 0
+abbrev pub byte : ℤ → ℕ
+byte = within 255
+
+abbrev pub half : ℤ → ℕ
+half = within 65535
+
+unfoldable pub signed_half : ℤ → ℤ
+signed_half x = if about 32767 x then x else pos 0
+
+-- a repeat, or none where the word is below 0
+unfoldable pub repeat : ℤ → Option ℕ
+repeat x = if non_neg x then Some (half x) else None
+
+-- the same of word k
+abbrev pub up_to : ℕ → List ℤ → ℕ → ℕ
+up_to top w k = within top (word_at w k)
+
+abbrev pub signed_at : List ℤ → ℕ → ℤ
+signed_at w k = signed_half (word_at w k)
 
 abbrev pub byte_at : List ℤ → ℕ → ℕ
 byte_at = up_to 255
@@ -64,8 +76,8 @@ time_at w k =
     else if exactly 3 (word_at w k) then time.Sunset (signed_at w (k + 1))
     else time.Dusk (signed_at w (k + 1))
 
-unfoldable pub repeat_at : List ℤ → ℕ → Repeat
-repeat_at w k = if non_neg (word_at w k) then Every (half_at w k) else Never
+abbrev pub repeat_at : List ℤ → ℕ → Option ℕ
+repeat_at w k = repeat (word_at w k)
 
 abbrev pub no_odd : Odd
 no_odd = record { name = false; weekday = false; offset = false }
@@ -116,8 +128,8 @@ candidate w =
 
 -- an item if a test is passed
 abbrev pub given : Bool → Item → Option Item
-given true a = some a
-given false a = none
+given true a = Some a
+given false a = None
 
 -- the item of a record that fits, or nothing
 unfoldable pub item_in : List ℤ → Option Item
@@ -136,11 +148,6 @@ quiet (Holidays r) = Holidays r
 quiet (Times r) =
     Times (record { start = r.start; end = r.end; repeats = r.repeats; open_end = r.open_end; point = r.point; odd_start = false; odd_end = false })
 
--- what the code's answer says
-abbrev pub found : Found → Option Item
-found (Is a) = some a
-found Nothing = none
-
 -- ---- a record
 
 -- the head that a record's words are
@@ -156,13 +163,13 @@ head_at w =
     }
 
 -- an item at a place, or nothing
-abbrev pub placed : Option Item → ℕ → Record
-placed (some a) place = tells.Item a place
-placed none place = tells.Nothing
+abbrev pub placed : Option Item → ℕ → Option Record
+placed (Some a) place = Some (tells.Item a place)
+placed None place = None
 
 -- a head, an item and its place, or nothing
-unfoldable pub record_in : List ℤ → Record
-record_in w = if is_kind 1 w && head_fits w then tells.Head (head_at w) else placed (item_in w) (number_at w 15)
+unfoldable pub record_in : List ℤ → Option Record
+record_in w = if is_kind 1 w && head_fits w then Some (tells.Head (head_at w)) else placed (item_in w) (number_at w 15)
 
 -- a head of which no name calls for a warning
 abbrev pub quiet_head : Head → Head

@@ -1,13 +1,11 @@
 -- Record words: 16 to a record, unused words are 0. The last is a place in the sheet: the item's, a head's rule's (docs/RULES.md, 5).
-use Rattle.std.specs.Prelude.{ℕ, ◌-◌, List, [], ◌∷◌, ◌++◌, Bool, true, false, ℤ, pos, negsuc, length, replicate, set}
+use Rattle.std.specs.Prelude.{ℕ, ◌-◌, List, [], ◌∷◌, ◌++◌, Bool, true, false, ℤ, pos, negsuc, length, replicate, set, Option, Some, None}
 use Rattle.records.specs.declared.Day.{Day}
 use Rattle.records.specs.declared.Day.TheVariants.{Fixed, Weekday, Easter}
 use Rattle.records.specs.declared.Date.{Date}
 use Rattle.records.specs.declared.DateOffset.{DateOffset}
 use Rattle.records.specs.declared.Time.{Time}
 use Rattle.records.specs.declared.Time.TheVariants as time
-use Rattle.records.specs.declared.Repeat.{Repeat}
-use Rattle.records.specs.declared.Repeat.TheVariants.{Never, Every}
 use Rattle.records.specs.declared.Head.{Head}
 use Rattle.records.specs.declared.Item.{Item}
 use Rattle.records.specs.declared.Item.TheVariants.{Years, Months, Dates, Weeks, Weekdays, Holidays, Times}
@@ -35,9 +33,9 @@ time_words (time.Sunset m) = pos 3 ∷ m ∷ []
 time_words (time.Dusk m) = pos 4 ∷ m ∷ []
 
 -- the repeat in minutes or -1
-abbrev pub repeat_word : Repeat → ℤ
-repeat_word Never = negsuc 0
-repeat_word (Every m) = pos m
+abbrev pub repeat_word : Option ℕ → ℤ
+repeat_word None = negsuc 0
+repeat_word (Some m) = pos m
 
 -- open end 0/1, a time alone 0/1
 abbrev pub bit : Bool → ℤ

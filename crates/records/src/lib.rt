@@ -11,8 +11,8 @@ mod words;
 pub use fits::{between, head_fits, item_fits, up};
 pub use judging::{judged, signed};
 pub use kept::{keep_head, keep_item};
-use names::Cursor;
-pub use told::{byte_at, item_in, item_of, number_at, record_in};
+use names::{Cursor, Reason, Refusal};
+pub use told::{byte, item_in, item_of, number, record_in};
 pub use warnings::warnings_in;
 
 // Years from first to last, each step'th.
@@ -42,7 +42,7 @@ pub struct MonthSpan {
 }
 
 // What a date has beside its year: a month and a day; a month, a weekday and which one of the month, from its end where it is below 0; or easter.
-#[derive(Clone, Copy)]
+#[derive(Clone, Copy, PartialEq, Eq)]
 pub enum Day {
     Fixed(u8, u8),
     Weekday(u8, u8, i16),
@@ -50,21 +50,21 @@ pub enum Day {
 }
 
 // A date, with its year or 0.
-#[derive(Clone, Copy)]
+#[derive(Clone, Copy, PartialEq, Eq)]
 pub struct Date {
     pub year: u16,
     pub day: Day,
 }
 
 // A weekday to go to, the previous where it is below 0, 0 none; and a number of days.
-#[derive(Clone, Copy)]
+#[derive(Clone, Copy, PartialEq, Eq)]
 pub struct DateOffset {
     pub wday: i16,
     pub days: i16,
 }
 
 // Which names of a date call for a warning: its month or `easter`, its weekday, the weekday of its offset.
-#[derive(Clone, Copy)]
+#[derive(Clone, Copy, Default)]
 pub struct Odd {
     pub name: bool,
     pub weekday: bool,
@@ -94,7 +94,7 @@ pub struct WeekDayRange {
     pub ends: u8,
 }
 
-// A holiday, 1 public, 2 school, and a number of days.
+// A holiday, 1 public, 2 school, and a number of days. (The kind is the number of the name among its kind, and the record's word that C's callers read.)
 #[derive(Clone, Copy)]
 pub struct Holiday {
     pub kind: u8,
@@ -102,7 +102,7 @@ pub struct Holiday {
 }
 
 // A clock time in minutes, or a sun event with minutes added or taken off.
-#[derive(Clone, Copy)]
+#[derive(Clone, Copy, PartialEq, Eq)]
 pub enum Time {
     Fixed(u16),
     Dawn(i16),
@@ -111,19 +111,12 @@ pub enum Time {
     Dusk(i16),
 }
 
-// Whether a span is repeated, and after how many minutes.
-#[derive(Clone, Copy)]
-pub enum Repeat {
-    Never,
-    Every(u16),
-}
-
-// A span of times, whether its end is open (a plus), whether it is a time alone, and which of its events call for a warning.
+// A span of times, after how many minutes it is repeated, if it is, whether its end is open (a plus), whether it is a time alone, and which of its events call for a warning.
 #[derive(Clone, Copy)]
 pub struct Span {
     pub start: Time,
     pub end: Time,
-    pub repeats: Repeat,
+    pub repeats: Option<u16>,
     pub open_end: bool,
     pub point: bool,
     pub odd_start: bool,
@@ -142,7 +135,7 @@ pub enum Item {
     Times(Span),
 }
 
-// A comment's first byte and its length, 0 and 0 for none.
+// A comment's first byte and its length, 0 and 0 for none, as the record's words are.
 #[derive(Clone, Copy)]
 pub struct Comment {
     pub start: usize,
@@ -150,6 +143,7 @@ pub struct Comment {
 }
 
 // A rule's head: its place, its separator, its state, its comment, how many items it has, and how many warnings its names call for.
+// (Separator and state are the record's words that C's callers read, and the state is the number of the modifier's name: an enum would be turned from a number and back.)
 #[derive(Clone, Copy)]
 pub struct Head {
     pub place: usize,
@@ -160,32 +154,15 @@ pub struct Head {
     pub warnings: usize,
 }
 
-// What a shape comes to when it is judged: an item, or the number that refuses it.
-#[derive(Clone, Copy)]
-pub enum Meant {
-    Is(Item),
-    Refused(u8),
-}
+// What a shape comes to when it is judged: an item, or why it is refused.
+pub type Meant = Result<Item, Reason>;
 
-// What reading an item answers: the item and the place after it, no such shape, or a refusal with its number and place.
-#[derive(Clone, Copy)]
-pub enum ItemRead {
-    Got(Item, Cursor),
-    Missing,
-    Refused(u8, usize),
-}
+// What reading an item answers: the item and the place after it, no such shape, or a refusal.
+pub type ItemRead = Result<Option<(Item, Cursor)>, Refusal>;
 
-// The item that a record tells, or nothing.
-#[derive(Clone, Copy)]
-pub enum Found {
-    Is(Item),
-    Nothing,
-}
-
-// What a record tells: a rule's head, an item and its place, or nothing.
+// What a record tells: a rule's head, or an item and its place.
 #[derive(Clone, Copy)]
 pub enum Record {
     Head(Head),
     Item(Item, usize),
-    Nothing,
 }

@@ -2,135 +2,119 @@
 ghost use Rattle.std.specs.Prelude.{◌<◌, ◌≡◌};
 ghost use Rattle.records.specs.Told as told;
 
-use crate::fits::{between, head_fits, item_fits, up};
+use crate::fits::{head_fits, item_fits};
 use crate::{
-    Comment, Date, DateOffset, DateSpan, Day, Found, Head, Holiday, Item, MonthSpan, Odd, Record,
-    Repeat, Span, Time, WeekDayRange, WeekRange, YearRange,
+    Comment, Date, DateOffset, DateSpan, Day, Head, Holiday, Item, MonthSpan, Odd, Record, Span,
+    Time, WeekDayRange, WeekRange, YearRange,
 };
 
-// Word k as a number up to 65,535; another one is taken as 0.
-fn half_at(w: [i32; 16], k: usize) -> u16
-    requires { k < 16 }
-    ensures { result ≡ told.half_at w k }
+// A word as a number up to 65,535; another one is taken as 0. `u16::try_from` and, for a byte, `u8::try_from` cost more instructions.
+// (Three functions, for three ranges: one for all would be given a type and both bounds.)
+#[tactic(auto, unfolding(crate::specs::Told::within, crate::specs::Ranges::between))]
+fn half(x: i32) -> u16
+    ensures { result ≡ told.half x }
 {
-    if between(w, k, 0, 65535) {
-        w[k] as u16
-    } else {
-        0
+    match x {
+        0..=65535 => x as u16,
+        _ => 0,
     }
 }
 
-// Word k as a number up to 255; another one is taken as 0.
-pub fn byte_at(w: [i32; 16], k: usize) -> u8
-    requires { k < 16 }
-    ensures { result ≡ told.byte_at w k }
+// A word as a number up to 255; another one is taken as 0.
+#[tactic(auto, unfolding(crate::specs::Told::within, crate::specs::Ranges::between))]
+pub fn byte(x: i32) -> u8
+    ensures { result ≡ told.byte x }
 {
-    if between(w, k, 0, 255) { w[k] as u8 } else { 0 }
-}
-
-// Word k as a number with a sign, up to 32,767; another one is taken as 0.
-fn signed_at(w: [i32; 16], k: usize) -> i16
-    requires { k < 16 }
-    ensures { result ≡ told.signed_at w k }
-{
-    if between(w, k, -32767, 32767) {
-        w[k] as i16
-    } else {
-        0
+    match x {
+        0..=255 => x as u8,
+        _ => 0,
     }
 }
 
-// Word k as a number from 0 up; one below 0 is taken as 0.
-pub fn number_at(w: [i32; 16], k: usize) -> usize
-    requires { k < 16 }
-    ensures { result ≡ told.number_at w k }
+// A word as a number with a sign, up to 32,767; another one is taken as 0.
+#[tactic(auto, unfolding(crate::specs::Told::signed_half, crate::specs::Ranges::between))]
+fn signed_half(x: i32) -> i16
+    ensures { result ≡ told.signed_half x }
 {
-    if up(w, k) { w[k] as usize } else { 0 }
+    match x {
+        -32767..=32767 => x as i16,
+        _ => 0,
+    }
 }
 
-// The day of a date in the seven words from k on.
-fn day_at(w: [i32; 16], k: usize) -> Day
-    requires { k < 9 }
-    ensures { result ≡ told.day_at w k }
+// A word as a number from 0 up; one below 0 is taken as 0.
+pub fn number(x: i32) -> usize
+    ensures { result ≡ told.number_of x }
 {
-    if between(w, k, 1, 1) {
-        return Day::Fixed(byte_at(w, k + 2), byte_at(w, k + 3));
-    }
-    if between(w, k, 2, 2) {
-        return Day::Weekday(byte_at(w, k + 2), byte_at(w, k + 3), signed_at(w, k + 4));
-    }
-    Day::Easter
+    x.max(0) as usize
 }
 
-fn date_at(w: [i32; 16], k: usize) -> Date
-    requires { k < 9 }
-    ensures { result ≡ told.date_at w k }
+// The day of a date, by its form.
+#[tactic(auto, unfolding(crate::specs::Told::day_at, crate::specs::Ranges::between))]
+fn day_of(d: [i32; 7]) -> Day
+    ensures { result ≡ told.day_at d 0 }
+{
+    let [form, _, a, b, nth, ..] = d;
+    match form {
+        1 => Day::Fixed(byte(a), byte(b)),
+        2 => Day::Weekday(byte(a), byte(b), signed_half(nth)),
+        _ => Day::Easter,
+    }
+}
+
+// A date of its seven words.
+#[tactic(auto, unfolding(crate::specs::Told::date_at))]
+fn date_of(d: [i32; 7]) -> Date
+    ensures { result ≡ told.date_at d 0 }
 {
     Date {
-        year: half_at(w, k + 1),
-        day: day_at(w, k),
+        year: half(d[1]),
+        day: day_of(d),
     }
 }
 
-fn offset_at(w: [i32; 16], k: usize) -> DateOffset
-    requires { k < 9 }
-    ensures { result ≡ told.offset_at w k }
+// The offset of a date, in the last two of its words.
+#[tactic(auto, unfolding(crate::specs::Told::offset_at))]
+fn offset_of(d: [i32; 7]) -> DateOffset
+    ensures { result ≡ told.offset_at d 0 }
 {
     DateOffset {
-        wday: signed_at(w, k + 5),
-        days: signed_at(w, k + 6),
+        wday: signed_half(d[5]),
+        days: signed_half(d[6]),
     }
 }
 
-// A time in the two words from k on.
-fn time_at(w: [i32; 16], k: usize) -> Time
-    requires { k < 14 }
-    ensures { result ≡ told.time_at w k }
+// A time of its two words, its kind and its minutes.
+#[tactic(auto, unfolding(crate::specs::Told::time_at, crate::specs::Ranges::between))]
+fn time_of(t: [i32; 2]) -> Time
+    ensures { result ≡ told.time_at t 0 }
 {
-    if between(w, k, 0, 0) {
-        return Time::Fixed(half_at(w, k + 1));
+    let [kind, minutes] = t;
+    match kind {
+        0 => Time::Fixed(half(minutes)),
+        1 => Time::Dawn(signed_half(minutes)),
+        2 => Time::Sunrise(signed_half(minutes)),
+        3 => Time::Sunset(signed_half(minutes)),
+        _ => Time::Dusk(signed_half(minutes)),
     }
-    let x = signed_at(w, k + 1);
-    if between(w, k, 1, 1) {
-        return Time::Dawn(x);
-    }
-    if between(w, k, 2, 2) {
-        return Time::Sunrise(x);
-    }
-    if between(w, k, 3, 3) {
-        return Time::Sunset(x);
-    }
-    Time::Dusk(x)
 }
 
-fn repeat_at(w: [i32; 16], k: usize) -> Repeat
-    requires { k < 16 }
-    ensures { result ≡ told.repeat_at w k }
+#[tactic(auto, unfolding(crate::specs::Told::repeat))]
+fn repeat(x: i32) -> Option<u16>
+    ensures { result ≡ told.repeat x }
 {
-    if up(w, k) {
-        return Repeat::Every(half_at(w, k));
-    }
-    Repeat::Never
-}
-
-fn quiet() -> Odd
-    ensures { result ≡ told.no_odd }
-{
-    Odd {
-        name: false,
-        weekday: false,
-        offset: false,
-    }
+    if x >= 0 { Some(half(x)) } else { None }
 }
 
 // The items of each kind.
+#[tactic(auto, using(crate::proofs::Laws::passed))]
 fn years_of(w: [i32; 16]) -> Item
     ensures { result ≡ told.years_in w }
 {
     Item::Years(YearRange {
-        first: half_at(w, 1),
-        last: half_at(w, 2),
-        step: half_at(w, 3),
+        first: half(w[1]),
+        last: half(w[2]),
+        step: half(w[3]),
     })
 }
 
@@ -138,34 +122,38 @@ fn months_of(w: [i32; 16]) -> Item
     ensures { result ≡ told.months_in w }
 {
     Item::Months(MonthSpan {
-        year: half_at(w, 1),
-        first: byte_at(w, 2),
-        last: byte_at(w, 3),
+        year: half(w[1]),
+        first: byte(w[2]),
+        last: byte(w[3]),
         odd_first: false,
         odd_last: false,
     })
 }
 
+#[tactic(auto, unfolding(crate::specs::Told::date_at, crate::specs::Told::day_at, crate::specs::Told::offset_at))]
 fn dates_of(w: [i32; 16]) -> Item
     ensures { result ≡ told.dates_in w }
 {
+    let start = [w[1], w[2], w[3], w[4], w[5], w[6], w[7]];
+    let end = [w[8], w[9], w[10], w[11], w[12], w[13], w[14]];
     Item::Dates(DateSpan {
-        start: date_at(w, 1),
-        start_offset: offset_at(w, 1),
-        end: date_at(w, 8),
-        end_offset: offset_at(w, 8),
-        odd_start: quiet(),
-        odd_end: quiet(),
+        start: date_of(start),
+        start_offset: offset_of(start),
+        end: date_of(end),
+        end_offset: offset_of(end),
+        odd_start: Odd::default(),
+        odd_end: Odd::default(),
     })
 }
 
+// (As years are: which case of `Item` it is would be all that one function for both is given.)
 fn weeks_of(w: [i32; 16]) -> Item
     ensures { result ≡ told.weeks_in w }
 {
     Item::Weeks(WeekRange {
-        first: half_at(w, 1),
-        last: half_at(w, 2),
-        step: half_at(w, 3),
+        first: half(w[1]),
+        last: half(w[2]),
+        step: half(w[3]),
     })
 }
 
@@ -173,13 +161,13 @@ fn weekdays_of(w: [i32; 16]) -> Item
     ensures { result ≡ told.weekdays_in w }
 {
     Item::Weekdays(WeekDayRange {
-        first: byte_at(w, 1),
-        last: byte_at(w, 2),
+        first: byte(w[1]),
+        last: byte(w[2]),
         odd_first: false,
         odd_last: false,
-        days: signed_at(w, 3),
-        starts: byte_at(w, 4),
-        ends: byte_at(w, 5),
+        days: signed_half(w[3]),
+        starts: byte(w[4]),
+        ends: byte(w[5]),
     })
 }
 
@@ -187,87 +175,76 @@ fn holidays_of(w: [i32; 16]) -> Item
     ensures { result ≡ told.holidays_in w }
 {
     Item::Holidays(Holiday {
-        kind: byte_at(w, 1),
-        days: signed_at(w, 2),
+        kind: byte(w[1]),
+        days: signed_half(w[2]),
     })
 }
 
+#[tactic(auto, using(crate::proofs::Laws::passed), unfolding(crate::specs::Told::time_at, crate::specs::Ranges::between))]
 fn times_of(w: [i32; 16]) -> Item
     ensures { result ≡ told.times_in w }
 {
     Item::Times(Span {
-        start: time_at(w, 1),
-        end: time_at(w, 3),
-        repeats: repeat_at(w, 5),
-        open_end: between(w, 6, 1, 1),
-        point: between(w, 7, 1, 1),
+        start: time_of([w[1], w[2]]),
+        end: time_of([w[3], w[4]]),
+        repeats: repeat(w[5]),
+        open_end: w[6] == 1,
+        point: w[7] == 1,
         odd_start: false,
         odd_end: false,
     })
 }
 
 // The item that a record's words are.
+#[tactic(auto, unfolding(crate::specs::Told::candidate, crate::specs::Ranges::between))]
 pub fn item_of(w: [i32; 16]) -> Item
     ensures { result ≡ told.candidate w }
 {
-    if between(w, 0, 2, 2) {
-        return years_of(w);
+    match w[0] {
+        2 => years_of(w),
+        3 => months_of(w),
+        4 => dates_of(w),
+        5 => weeks_of(w),
+        6 => weekdays_of(w),
+        7 => holidays_of(w),
+        _ => times_of(w),
     }
-    if between(w, 0, 3, 3) {
-        return months_of(w);
-    }
-    if between(w, 0, 4, 4) {
-        return dates_of(w);
-    }
-    if between(w, 0, 5, 5) {
-        return weeks_of(w);
-    }
-    if between(w, 0, 6, 6) {
-        return weekdays_of(w);
-    }
-    if between(w, 0, 7, 7) {
-        return holidays_of(w);
-    }
-    times_of(w)
 }
 
 // The item of a record that fits, or nothing.
-pub fn item_in(w: [i32; 16]) -> Found
-    ensures { told.found result ≡ told.item_in w }
+#[tactic(auto, unfolding(crate::specs::Told::item_in))]
+pub fn item_in(w: [i32; 16]) -> Option<Item>
+    ensures { result ≡ told.item_in w }
 {
-    if item_fits(w) {
-        return Found::Is(item_of(w));
-    }
-    Found::Nothing
+    if item_fits(w) { Some(item_of(w)) } else { None }
 }
 
 // The head that a record's words are.
+#[tactic(auto, unfolding(crate::specs::Told::head_at))]
 fn head_at(w: [i32; 16]) -> Head
     ensures { result ≡ told.head_at w }
 {
     Head {
-        place: number_at(w, 15),
-        separator: byte_at(w, 1),
-        state: byte_at(w, 2),
+        place: number(w[15]),
+        separator: byte(w[1]),
+        state: byte(w[2]),
         comment: Comment {
-            start: number_at(w, 3),
-            length: number_at(w, 4),
+            start: number(w[3]),
+            length: number(w[4]),
         },
-        items: number_at(w, 5),
+        items: number(w[5]),
         warnings: 0,
     }
 }
 
 // A head, an item and its place, or nothing.
-pub fn record_in(w: [i32; 16]) -> Record
+#[tactic(auto, unfolding(crate::specs::Told::record_in, crate::specs::Ranges::between))]
+pub fn record_in(w: [i32; 16]) -> Option<Record>
     ensures { result ≡ told.record_in w }
 {
-    if between(w, 0, 1, 1) & head_fits(w) {
-        return Record::Head(head_at(w));
+    if w[0] == 1 && head_fits(w) {
+        return Some(Record::Head(head_at(w)));
     }
-    let found = item_in(w);
-    match found {
-        Found::Is(a) => Record::Item(a, number_at(w, 15)),
-        Found::Nothing => Record::Nothing,
-    }
+    let item = item_in(w)?;
+    Some(Record::Item(item, number(w[15])))
 }

@@ -4,42 +4,30 @@ ghost use Rattle.records.specs.Warnings as warnings;
 
 use crate::{Item, Odd};
 
-// A warning for a name, or none.
-fn once(odd: bool) -> u8
-    ensures { (result ≡ warnings.once odd) × (result ≤ 1) }
-{
-    if odd { 1 } else { 0 }
-}
-
 // The warnings of two names.
 fn twice(first: bool, last: bool) -> u8
     ensures { result ≡ warnings.once first + warnings.once last }
 {
-    once(first) + once(last)
+    u8::from(first) + u8::from(last)
 }
 
 // The warnings of a date.
 fn date_warnings(o: Odd) -> u8
     ensures { (result ≡ warnings.date_warnings o) × (result ≤ 3) }
 {
-    once(o.name) + once(o.weekday) + once(o.offset)
+    u8::from(o.name) + u8::from(o.weekday) + u8::from(o.offset)
 }
 
 // How many warnings the names of an item call for.
+#[tactic(auto, unfolding(crate::specs::Warnings::item_warnings))]
 pub fn warnings_in(a: Item) -> u8
     ensures { result ≡ warnings.item_warnings a }
 {
     match a {
-        Item::Years(_) => 0,
+        Item::Years(_) | Item::Weeks(_) | Item::Holidays(_) => 0,
         Item::Months(r) => twice(r.odd_first, r.odd_last),
-        Item::Dates(r) => {
-            let start = r.odd_start;
-            let end = r.odd_end;
-            date_warnings(start) + date_warnings(end)
-        }
-        Item::Weeks(_) => 0,
+        Item::Dates(r) => date_warnings(r.odd_start) + date_warnings(r.odd_end),
         Item::Weekdays(r) => twice(r.odd_first, r.odd_last),
-        Item::Holidays(_) => 0,
         Item::Times(r) => twice(r.odd_start, r.odd_end),
     }
 }

@@ -1,235 +1,158 @@
 // Record words: 16 to a record, unused words are 0, the last is the place in a text of at most 4,096 bytes.
-ghost use Rattle.std.specs.Prelude.{◌≤◌, [], ◌∷◌, ◌≡◌, pos};
+ghost use Rattle.std.specs.Prelude.{◌≤◌, [], ◌∷◌, ◌≡◌, pos, set};
 ghost use Rattle.records.specs.Words as w;
 ghost use Rattle.records.specs.declared.Item.TheVariants as item;
 
-use crate::{Date, DateSpan, Day, Head, Holiday, Repeat, Span, Time, WeekDayRange};
+use crate::{Date, DateSpan, Day, Head, Holiday, Span, Time, WeekDayRange};
 
-// Form, year or 0, month, day or weekday, n signed.
-#[derive(Clone, Copy)]
-struct DayWords {
-    form: i32,
-    year: i32,
-    month: i32,
-    day: i32,
-    nth: i32,
-}
-
-// Kind and minutes.
-#[derive(Clone, Copy)]
-struct TimeWords {
-    kind: i32,
-    minutes: i32,
-}
-
-// The words of a date without its offset.
-fn day_words(d: Date) -> DayWords
-    ensures { result.form ∷ result.year ∷ result.month ∷ result.day ∷ result.nth ∷ [] ≡ w.day_words d.year d.day }
+// The words of a date without its offset: form, year or 0, month, day or weekday, n signed.
+fn day_words(d: Date) -> [i32; 5]
+    ensures { result ≡ w.day_words d.year d.day }
 {
-    let year = d.year as i32;
-    let day = d.day;
-    match day {
-        Day::Fixed(m, n) => DayWords {
-            form: 1,
+    let year = i32::from(d.year);
+    match d.day {
+        Day::Fixed(month, day) => [1, year, i32::from(month), i32::from(day), 0],
+        Day::Weekday(month, weekday, nth) => [
+            2,
             year,
-            month: m as i32,
-            day: n as i32,
-            nth: 0,
-        },
-        Day::Weekday(m, w, n) => DayWords {
-            form: 2,
-            year,
-            month: m as i32,
-            day: w as i32,
-            nth: n as i32,
-        },
-        Day::Easter => DayWords {
-            form: 3,
-            year,
-            month: 0,
-            day: 0,
-            nth: 0,
-        },
+            i32::from(month),
+            i32::from(weekday),
+            i32::from(nth),
+        ],
+        Day::Easter => [3, year, 0, 0, 0],
     }
 }
 
-// The words of a time.
-fn time_words(t: Time) -> TimeWords
-    ensures { result.kind ∷ result.minutes ∷ [] ≡ w.time_words t }
+// The words of a time: kind and minutes.
+fn time_words(t: Time) -> [i32; 2]
+    ensures { result ≡ w.time_words t }
 {
     match t {
-        Time::Fixed(m) => TimeWords {
-            kind: 0,
-            minutes: m as i32,
-        },
-        Time::Dawn(m) => TimeWords {
-            kind: 1,
-            minutes: m as i32,
-        },
-        Time::Sunrise(m) => TimeWords {
-            kind: 2,
-            minutes: m as i32,
-        },
-        Time::Sunset(m) => TimeWords {
-            kind: 3,
-            minutes: m as i32,
-        },
-        Time::Dusk(m) => TimeWords {
-            kind: 4,
-            minutes: m as i32,
-        },
+        Time::Fixed(minutes) => [0, i32::from(minutes)],
+        Time::Dawn(minutes) => [1, i32::from(minutes)],
+        Time::Sunrise(minutes) => [2, i32::from(minutes)],
+        Time::Sunset(minutes) => [3, i32::from(minutes)],
+        Time::Dusk(minutes) => [4, i32::from(minutes)],
     }
 }
 
 // The repeat in minutes or -1.
-fn repeat_word(r: Repeat) -> i32
+fn repeat_word(r: Option<u16>) -> i32
     ensures { result ≡ w.repeat_word r }
 {
-    match r {
-        Repeat::Never => -1,
-        Repeat::Every(m) => m as i32,
-    }
+    r.map_or(-1, i32::from)
 }
 
-// 0 or 1.
-fn bit(b: bool) -> i32
-    ensures { result ≡ w.bit b }
+// A record of its first words: the others are 0.
+fn record_of<const N: usize>(words: [i32; N]) -> [i32; 16]
+    requires { N ≤ 16 }
+    ensures { result ≡ w.record16 words.entry }
 {
-    if b { 1 } else { 0 }
+    let mut record = [0; 16];
+    record[..N].copy_from_slice(&words);
+    record
 }
 
-// A record of its first eight words: the others are 0, but for the last, its place.
-fn record_of(
-    a: i32,
-    b: i32,
-    c: i32,
-    d: i32,
-    e: i32,
-    f: i32,
-    g: i32,
-    h: i32,
-    place: usize,
-) -> [i32; 16]
-    requires { place ≤ 4096 }
-    ensures { result ≡ w.placed_at place (w.record16 (a ∷ b ∷ c ∷ d ∷ e ∷ f ∷ g ∷ h ∷ [])) }
+// A record with its place in the last word.
+pub fn placed(words: [i32; 16], place: i32) -> [i32; 16]
+    ensures { result ≡ set words 15 place }
 {
-    [a, b, c, d, e, f, g, h, 0, 0, 0, 0, 0, 0, 0, place as i32]
+    let mut record = words;
+    record[15] = place;
+    record
 }
 
 // A record with three numbers after its kind.
-pub fn three(kind: i32, a: u16, b: u16, c: u16, place: usize) -> [i32; 16]
-    requires { place ≤ 4096 }
-    ensures { result ≡ w.placed_at place (w.record16 (kind ∷ pos a ∷ pos b ∷ pos c ∷ [])) }
+pub fn three(kind: i32, a: u16, b: u16, c: u16) -> [i32; 16]
+    ensures { result ≡ w.record16 (kind ∷ pos a ∷ pos b ∷ pos c ∷ []) }
 {
-    record_of(kind, a as i32, b as i32, c as i32, 0, 0, 0, 0, place)
+    record_of([kind, i32::from(a), i32::from(b), i32::from(c)])
 }
 
 // The words of dates.
-pub fn dates_words(r: DateSpan, place: usize) -> [i32; 16]
-    requires { place ≤ 4096 }
-    ensures { result ≡ w.placed_at place (w.words_of (item.Dates r)) }
+#[tactic(auto, unfolding(crate::specs::Words::words_of))]
+pub fn dates_words(r: DateSpan) -> [i32; 16]
+    ensures { result ≡ w.words_of (item.Dates r) }
 {
-    let start = r.start;
-    let end = r.end;
-    let o = r.start_offset;
-    let p = r.end_offset;
-    let owday = o.wday;
-    let odays = o.days;
-    let pwday = p.wday;
-    let pdays = p.days;
-    let a = day_words(start);
-    let b = day_words(end);
-    [
+    let [form, year, month, day, nth] = day_words(r.start);
+    let [end_form, end_year, end_month, end_day, end_nth] = day_words(r.end);
+    let words = [
         4,
-        a.form,
-        a.year,
-        a.month,
-        a.day,
-        a.nth,
-        owday as i32,
-        odays as i32,
-        b.form,
-        b.year,
-        b.month,
-        b.day,
-        b.nth,
-        pwday as i32,
-        pdays as i32,
-        place as i32,
-    ]
+        form,
+        year,
+        month,
+        day,
+        nth,
+        i32::from(r.start_offset.wday),
+        i32::from(r.start_offset.days),
+        end_form,
+        end_year,
+        end_month,
+        end_day,
+        end_nth,
+        i32::from(r.end_offset.wday),
+        i32::from(r.end_offset.days),
+    ];
+    record_of(words)
 }
 
 // The words of weekdays.
-pub fn weekdays_words(r: WeekDayRange, place: usize) -> [i32; 16]
-    requires { place ≤ 4096 }
-    ensures { result ≡ w.placed_at place (w.words_of (item.Weekdays r)) }
+#[tactic(auto, unfolding(crate::specs::Words::words_of))]
+pub fn weekdays_words(r: WeekDayRange) -> [i32; 16]
+    ensures { result ≡ w.words_of (item.Weekdays r) }
 {
-    let days = r.days;
-    let first = r.first as i32;
-    let last = r.last as i32;
-    record_of(
+    let words = [
         6,
-        first,
-        last,
-        days as i32,
-        r.starts as i32,
-        r.ends as i32,
-        0,
-        0,
-        place,
-    )
+        i32::from(r.first),
+        i32::from(r.last),
+        i32::from(r.days),
+        i32::from(r.starts),
+        i32::from(r.ends),
+    ];
+    record_of(words)
 }
 
 // The words of a holiday.
-pub fn holiday_words(r: Holiday, place: usize) -> [i32; 16]
-    requires { place ≤ 4096 }
-    ensures { result ≡ w.placed_at place (w.words_of (item.Holidays r)) }
+#[tactic(auto, unfolding(crate::specs::Words::words_of))]
+pub fn holiday_words(r: Holiday) -> [i32; 16]
+    ensures { result ≡ w.words_of (item.Holidays r) }
 {
-    let days = r.days;
-    record_of(7, r.kind as i32, days as i32, 0, 0, 0, 0, 0, place)
+    record_of([7, i32::from(r.kind), i32::from(r.days)])
 }
 
 // The words of a span.
-pub fn span_words(r: Span, place: usize) -> [i32; 16]
-    requires { place ≤ 4096 }
-    ensures { result ≡ w.placed_at place (w.words_of (item.Times r)) }
+#[tactic(auto, unfolding(crate::specs::Words::words_of))]
+pub fn span_words(r: Span) -> [i32; 16]
+    ensures { result ≡ w.words_of (item.Times r) }
 {
-    let start = r.start;
-    let end = r.end;
-    let repeats = r.repeats;
-    let a = time_words(start);
-    let b = time_words(end);
-    let every = repeat_word(repeats);
-    record_of(
+    let [start_kind, start] = time_words(r.start);
+    let [end_kind, end] = time_words(r.end);
+    let words = [
         8,
-        a.kind,
-        a.minutes,
-        b.kind,
-        b.minutes,
-        every,
-        bit(r.open_end),
-        bit(r.point),
-        place,
-    )
+        start_kind,
+        start,
+        end_kind,
+        end,
+        repeat_word(r.repeats),
+        i32::from(r.open_end),
+        i32::from(r.point),
+    ];
+    record_of(words)
 }
 
 // The words of the head of a rule in a text of at most 4,096 bytes.
+#[tactic(auto, unfolding(crate::specs::Words::head_words))]
 pub fn head_words(h: Head) -> [i32; 16]
     requires { (h.comment.start ≤ 4096) × (h.comment.length ≤ 4096) × (h.items ≤ 4096) × (h.place ≤ 4096) }
     ensures { result ≡ w.head_words h }
 {
-    let c = h.comment;
-    let start = c.start as i32;
-    let length = c.length as i32;
-    record_of(
+    let words = [
         1,
-        h.separator as i32,
-        h.state as i32,
-        start,
-        length,
+        i32::from(h.separator),
+        i32::from(h.state),
+        h.comment.start as i32,
+        h.comment.length as i32,
         h.items as i32,
-        0,
-        0,
-        h.place,
-    )
+    ];
+    placed(record_of(words), h.place as i32)
 }

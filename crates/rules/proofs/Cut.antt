@@ -1,5 +1,5 @@
 -- Each definition depends on nothing before its place and nothing from a `;` outside quotes on: the lemmas put together as the definitions are.
-use Rattle.std.specs.Prelude.{if◌then◌else◌}
+use Rattle.std.specs.Prelude.{Some, None, if◌then◌else◌}
 use Prim.Native.Nat.{ℕ, zero, suc, ◌+◌, ◌-◌, ◌<◌}
 use mathlib.Core.List.{List, [], ◌∷◌, ◌++◌, append-nil}
 use mathlib.Core.List as list
@@ -46,7 +46,6 @@ use Rattle.rules.specs.declared.Stage.{Stage}
 use Rattle.rules.specs.declared.Stage.TheVariants.{Beginning, Always, Colon, After}
 use Rattle.rules.specs.declared.Tail.{Tail}
 use Rattle.records.specs.declared.Head.{Head}
-use Rattle.rules.specs.declared.Next.TheVariants.{Another, Finished}
 
 -- ---- values that hold a place
 
@@ -376,9 +375,9 @@ module _ {u : List ℕ} (m : Manner) (separator : ℕ) where
 pub separator_ended : {u : List ℕ} → Local Ended keep u false false 1 separator separator
 unfolding separator
 separator_ended =
-    or_local (then_local (byte_ended 59) (λ _. pure_local (Another 0)))
-    (or_local (then_local (narrow comma_blank_local) (λ _. pure_local (Another 1))) (then_local (loose (narrow bars_local) (omega arith)) (λ _. pure_local (Another 2))))
+    or_local (then_local (byte_ended 59) (λ _. pure_local (Some 0)))
+    (or_local (then_local (narrow comma_blank_local) (λ _. pure_local (Some 1))) (then_local (loose (narrow bars_local) (omega arith)) (λ _. pure_local (Some 2))))
 
 pub next_ended : {u : List ℕ} → Local Ended keep u false false 0 next next
 unfolding next
-next_ended = or_local (then_local at_end_ended (λ _. pure_local Finished)) (free separator_ended)
+next_ended = or_local (then_local at_end_ended (λ _. pure_local None)) (free separator_ended)

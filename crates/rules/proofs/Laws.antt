@@ -9,22 +9,21 @@ use native.Mathlib.Decide.{dec_lt}
 use borrow.Author.Tests.{eq-eqb, ne_eqb, eqb-true, eqb-false}
 use lib.Dec.{ltb, eqb}
 use lib.ListN.{length, get_or}
-use Rattle.names.specs.Read.{Read, got, none, refused, Reader, follow, branch, nothing, pure, when, one}
+use Rattle.names.specs.Read.{Read, got, none, refused, Reader, follow, branch, nothing, pure, refuse, when, one}
 use Rattle.names.specs.Chain.{skip}
-use Rattle.names.specs.Texts.{byte, all_of}
+use Rattle.names.specs.Texts.{bytes, byte, all_of}
 use Rattle.names.proofs.Local.{Ended, keep, Local, past, map_local}
 use Rattle.names.proofs.Ended.{one_ended}
 use Rattle.names.proofs.Chains.{many_local}
 use Rattle.names.proofs.Laws.{one_got, one_other, one_past}
 use Rattle.names.proofs.Skips.{skip_more, skip_stop, skip_end}
-use Rattle.rules.specs.Comments.{no_comment}
+use Rattle.names.specs.Refusals.{ill_formed_comment}
+use Rattle.utf8.specs.Letters.{is_inner}
+use Rattle.rules.specs.Comments.{no_comment, ill_formed}
 use Rattle.rules.specs.Comments as comments
 use Rattle.rules.specs.Modifiers.{tail_of}
+use Rattle.rules.specs.Rules.{wide_comment}
 use Rattle.rules.specs.Pieces.{plain_end}
-use Rattle.rules.specs.Seen.{seen_comment}
-use Rattle.records.specs.declared.Comment.{Comment}
-use Rattle.rules.specs.declared.CommentRead.{CommentRead}
-use Rattle.rules.specs.declared.CommentRead.TheVariants as comment
 use Rattle.rules.specs.declared.Stage.{Stage}
 use Rattle.rules.specs.declared.Stage.TheVariants.{Beginning, Always, Colon, After}
 
@@ -42,6 +41,10 @@ eqb_swap a b = go (eqb a b) refl
 pub skip_ended : {u : List ℕ} {a : Bool} (p : ℕ → Bool) → Local Ended keep u a a 0 (skip p) (skip p)
 unfolding skip
 skip_ended p = map_local _ _ (λ x. refl) (many_local (one_ended p))
+
+-- one of them, and what is left to skip
+pub skip_on : (p : ℕ → Bool) (s : List ℕ) (i : ℕ) → i < length s → p (get_or s i 0) ≡ true → skip p s i ≡ skip p s (i + 1)
+skip_on p s i h e = skip_more p s i h e ∙ ap (skip p s) (sym (add-one i))
 
 -- none of them, or one and then the others
 data Skipped (p : ℕ → Bool) (s : List ℕ) (i j : ℕ) : Type 0 where
@@ -88,6 +91,19 @@ module _ (p : ℕ → Bool) (s : List ℕ) (i j : ℕ) (e : skip p s i ≡ got t
       go (stood a q) = a
       go (went a b q) = absurd (omega arith)
 
+-- ---- other bytes of a comment than characters, up to j
+
+module _ (s : List ℕ) (place i j : ℕ) (e : skip is_inner s i ≡ got tt j) where
+  -- none of them
+  pub ill_formed_none : j ≤ i → ill_formed place s i ≡ none
+  unfolding ill_formed
+  ill_formed_none h = rw (skip_none is_inner s i j e h)
+
+  -- some, and then the closing quote or none
+  pub ill_formed_is : i < j → ill_formed place s i ≡ follow s j (byte 34 s j) (λ _. refuse ill_formed_comment place) nothing
+  unfolding ill_formed
+  ill_formed_is h = rw (skip_first is_inner s i j e h, skip_others is_inner s i j e h)
+
 -- ---- bytes that stand as they are, one at a time
 module _ (x : ℕ) (s : List ℕ) (i : ℕ) where
   -- the first, and then the others
@@ -110,18 +126,29 @@ module _ (x : ℕ) (s : List ℕ) (i : ℕ) where
       go none = refl
       go (refused k p) = refl
 
--- ---- answers, stages and kinds by their numbers
+-- after a reading, two readers that read alike from each place
+then_alike : {A B : Type 0} (s : List ℕ) (i : ℕ) (r : Read A) (m n : Reader B) → ((j : ℕ) → m s j ≡ n s j) → follow s i r (λ _. m) nothing ≡ follow s i r (λ _. n) nothing
+then_alike s i (got a j) m n h = h j
+then_alike s i none m n h = refl
+then_alike s i (refused k p) m n h = refl
 
--- where reading a comment finds anything, no other is tried
-pub comment_stays : (r : CommentRead) → (r ≡ comment.Missing → ⊥) → (s : List ℕ) (i : ℕ) (n : Reader Comment) → follow s i (seen_comment r) pure n ≡ seen_comment r
-comment_stays (comment.Got x c) k s i n = refl
-comment_stays comment.Missing k s i n = absurd (k refl)
-comment_stays (comment.Refused e p) k s i n = refl
+-- `24/7`, a byte at a time
+pub always_is : (s : List ℕ) (i : ℕ) → all_of (λ b. b) (bytes "24/7") s i ≡ branch (byte 50) (λ _. branch (byte 52) (λ _. branch (byte 47) (λ _. byte 55) nothing) nothing) nothing s i
+always_is s i =
+    all_first 50 s i (52 ∷ 47 ∷ 55 ∷ []) ∙ then_alike s i (byte 50 s i) _ _ (λ j. all_first 52 s j (47 ∷ 55 ∷ []) ∙ then_alike s j (byte 52 s j) _ _ (λ k.
+    all_first 47 s k (55 ∷ []) ∙ then_alike s k (byte 47 s k) _ _ (λ l. all_last 55 s l)))
+
+-- ---- answers, stages and kinds by their numbers
 
 -- where no quote stands, no comment does
 pub no_comment_lem : (s : List ℕ) (i : ℕ) → byte 34 s i ≡ none → comments.comment s i ≡ none
 unfolding comments.comment
 no_comment_lem s i e = rw (e)
+
+-- nor does that of a wide part
+pub no_wide_lem : (s : List ℕ) (i : ℕ) → byte 34 s i ≡ none → wide_comment s i ≡ none
+unfolding wide_comment
+no_wide_lem s i e = rw (no_comment_lem s i e)
 
 -- without a modifier, a rule with selectors is open: at each stage but the first
 pub open_end : (x : Stage) → (x ≡ Beginning → ⊥) → plain_end x ≡ pure (tail_of 0 no_comment false)

@@ -1,5 +1,6 @@
 -- A piece of a rule, by what stands where the rule goes on.
-use Prim.Native.Nat.{ℕ}
+use Rattle.std.specs.Prelude.{Option, Some, None}
+use Prim.Native.Nat.{ℕ, ◌<◌, ◌≤◌}
 use mathlib.Core.Bool.{Bool, true, false, ◌||◌}
 use mathlib.Core.List.{List, []}
 use mathlib.Core.Logic.{◌⊎◌, inl, inr}
@@ -14,7 +15,9 @@ use Rattle.names.specs.Names.{word}
 use Rattle.names.specs.Spellings.{odd}
 use Rattle.names.specs.Refusals.{empty_rule}
 use Rattle.names.specs.Names as names
-use Rattle.names.proofs.Laws.{one_is}
+use Rattle.names.proofs.Laws.{one_is, either}
+use Rattle.names.proofs.Local.{past_one}
+use Rattle.names.proofs.NameCut.{word_local}
 use Rattle.names.proofs.Search.{word_letter}
 use Rattle.names.proofs.Odd.{named_got, named_none}
 use Rattle.names.specs.declared.Manner.{Manner}
@@ -28,17 +31,18 @@ use Rattle.rules.specs.Comments.{no_comment, comment, comment_apart}
 use Rattle.rules.specs.Modifiers.{tail_of, with_comment, modifier}
 use Rattle.rules.specs.Rows.{small, first, listed, following}
 use Rattle.rules.specs.Pieces.{empty, item_from, goes_on, after_colon, colon_sign, colon, more, plain_end, end, piece}
-use Rattle.names.specs.declared.Cursor.{Cursor}
 use Rattle.items.specs.Sets.{kinds_of}
 use Rattle.rules.specs.Seen.{turned}
-use Rattle.rules.specs.declared.Turn.TheVariants.{On}
+use Rattle.rules.specs.declared.Turn.{Turn}
 use Rattle.rules.specs.Separators.{comma_blank, bars, separator, next, stop, rule_end}
-use Rattle.rules.specs.declared.Next.{Next}
-use Rattle.rules.specs.declared.Next.TheVariants.{Another, Finished}
 use Rattle.records.specs.declared.Comment.{Comment}
 use Rattle.rules.specs.declared.Tail.{Tail}
 use Rattle.rules.specs.declared.Stage.{Stage}
 use Rattle.rules.specs.declared.Stage.TheVariants.{Beginning, Always, Colon, After}
+
+-- a name takes bytes of the text
+pub word_takes : (s : List ℕ) (i : ℕ) {v : names.Word} {j : ℕ} → word s i ≡ got v j → (i < j) × (j ≤ length s)
+word_takes s i e = past_one word_local e
 
 -- after a modifier's word there is always an end
 with_comment_sure : (s : List ℕ) (v : ℕ) (odd : Bool) (l : ℕ) → Sure (with_comment v odd s l)
@@ -234,14 +238,39 @@ module _ (m : Manner) (s : List ℕ) (j : ℕ) (ks : List Kind) where
 
 -- ---- the same of a turn
 
-module _ (m : Manner) (s : List ℕ) (x : Stage) (i : ℕ) (c : Cursor) (set : ℕ) where
-  pub turned_item : (b : Bool) {a : Placed} {k : Kind} {l : ℕ} → item_in m (kinds_of set) s c.at ≡ got (a, k) l → turned m s x i (On c set b) ≡ got (inl (a, After k)) l
-  turned_item true e = has_item m s c.at (kinds_of set) e
-  turned_item false e = may_item m s c.at (kinds_of set) x i e
+module _ (m : Manner) (s : List ℕ) (x : Stage) (i : ℕ) (t : Turn) where
+  -- what stands where the rule goes on
+  abbrev next_item : Read (Placed × Kind)
+  next_item = item_in m (kinds_of t.wanted.bits) s t.at.at
 
-  pub turned_refused : (b : Bool) {n p : ℕ} → item_in m (kinds_of set) s c.at ≡ refused n p → turned m s x i (On c set b) ≡ refused n p
-  turned_refused true e = has_refused m s c.at (kinds_of set) e
-  turned_refused false e = may_refused m s c.at (kinds_of set) x i e
+  -- what the piece is, where an item has to stand there and where it may
+  abbrev must_be : Read Piece
+  must_be = has m s t.at.at (kinds_of t.wanted.bits)
+
+  abbrev may_be : Read Piece
+  may_be = may m s t.at.at (kinds_of t.wanted.bits) x i
+
+  pub turned_item : {a : Placed} {k : Kind} {l : ℕ} → next_item ≡ got (a, k) l → turned m s x i (Some t) ≡ got (inl (a, After k)) l
+  turned_item {a} {k} {l} e =
+      either (λ (r : Read Piece). r ≡ got (inl (a, After k)) l) t.must must_be may_be (has_item m s t.at.at (kinds_of t.wanted.bits) e) (may_item m s t.at.at (kinds_of t.wanted.bits) x i e)
+
+  pub turned_refused : {n p : ℕ} → next_item ≡ refused n p → turned m s x i (Some t) ≡ refused n p
+  turned_refused {n} {p} e =
+      either (λ (r : Read Piece). r ≡ refused n p) t.must must_be may_be (has_refused m s t.at.at (kinds_of t.wanted.bits) e) (may_refused m s t.at.at (kinds_of t.wanted.bits) x i e)
+
+  pub turned_lacking : t.must ≡ true → next_item ≡ none → turned m s x i (Some t) ≡ map inl missing s t.at.at
+  turned_lacking h e = rw h (has_none m s t.at.at (kinds_of t.wanted.bits) e)
+
+  -- where none has to: a name, of a modifier or another, or none
+  module _ (h : t.must ≡ false) (e : next_item ≡ none) where
+    pub turned_modifier : {n v l : ℕ} → word s t.at.at ≡ got (n, v) l → n ≡ names.modifier → turned m s x i (Some t) ≡ map inr (with_comment v (odd names.modifier s t.at.at l)) s l
+    turned_modifier w q = rw h (may_modifier m s t.at.at (kinds_of t.wanted.bits) x i e w q)
+
+    pub turned_other : {n v l : ℕ} → word s t.at.at ≡ got (n, v) l → (n ≡ names.modifier → ⊥) → turned m s x i (Some t) ≡ map inr (plain_end x) s i
+    turned_other w q = rw h (may_other m s t.at.at (kinds_of t.wanted.bits) x i e w q)
+
+    pub turned_unnamed : word s t.at.at ≡ none → turned m s x i (Some t) ≡ branch comment (λ m. pure (inr (tail_of 0 m false))) (λ s _. map inr (plain_end x) s i) s t.at.at
+    turned_unnamed w = rw h (may_unnamed m s t.at.at (kinds_of t.wanted.bits) x i e w)
 
 -- ---- nothing was read
 
@@ -251,29 +280,43 @@ module _ (s : List ℕ) (i : ℕ) where
   unfolding empty rule_end stop next separator at_end byte
   empty_is = go (eqb i (length s)) (eqb 59 (get_or s i 0)) refl
     where
-      last : (b : Read (Unit {0})) → follow {B = Tail} s i b (λ _. refuse empty_rule i) nothing ≡ follow s i (follow s i b (λ _. pure (Another 2)) nothing) (λ _. refuse empty_rule i) nothing
+      last : (b : Read (Unit {0})) → follow {B = Tail} s i b (λ _. refuse empty_rule i) nothing ≡ follow s i (follow s i b (λ _. pure {A = Option ℕ} (Some 2)) nothing) (λ _. refuse empty_rule i) nothing
       last (got tt j) = refl
       last none = refl
       last (refused k p) = refl
 
       others : (c : Read (Unit {0})) →
           follow {B = Tail} s i (follow s i c pure bars) (λ _. refuse empty_rule i) nothing
-          ≡ follow s i (follow s i (follow s i c (λ _. pure (Another 1)) nothing) pure (branch bars (λ _. pure (Another 2)) nothing)) (λ _. refuse empty_rule i) nothing
+          ≡ follow s i (follow s i (follow s i c (λ _. pure {A = Option ℕ} (Some 1)) nothing) pure (branch bars (λ _. pure {A = Option ℕ} (Some 2)) nothing)) (λ _. refuse empty_rule i) nothing
       others (got tt j) = refl
       others none = last (bars s i)
       others (refused k p) = refl
 
       go : (a t : Bool) → eqb 59 (get_or s i 0) ≡ t →
           follow {B = Tail} s i (follow s i (only (a || t) s i) pure (comma_blank or bars)) (λ _. refuse empty_rule i) nothing
-          ≡ follow s i (follow s i (follow s i (only a s i) (λ _. pure Finished) nothing) pure separator) (λ _. refuse empty_rule i) nothing
+          ≡ follow s i (follow s i (follow s i (only a s i) (λ _. pure {A = Option ℕ} None) nothing) pure separator) (λ _. refuse empty_rule i) nothing
       go true t e = refl
       go false true e = rw (one_is (eqb 59) refl s i refl e)
       go false false e = rw (one_is (eqb 59) refl s i refl e) (others (comma_blank s i))
 
-  pub nothing_empty : {n : Next} {j : ℕ} → next s i ≡ got n j → map {B = Piece} inr (plain_end Beginning) s i ≡ refused empty_rule i
+  pub nothing_empty : {n : Option ℕ} {j : ℕ} → next s i ≡ got n j → map {B = Piece} inr (plain_end Beginning) s i ≡ refused empty_rule i
   unfolding plain_end
   nothing_empty e = rw (empty_is, e)
 
   pub nothing_else : next s i ≡ none → map {B = Piece} inr (plain_end Beginning) s i ≡ map inr missing s i
   unfolding plain_end
   nothing_else e = rw (empty_is, e)
+
+-- ---- what each function of the code goes by
+
+pub ruleset colons = (colon_blank, colon_bare)
+
+pub ruleset blanks = (blank_on, blank_off)
+
+pub ruleset after_items = (comma_piece, wide_piece, bare_piece)
+
+pub ruleset stages = (first_piece, always_piece, colon_piece)
+
+pub ruleset nothings = (nothing_empty, nothing_else)
+
+pub ruleset turns = (word_takes, turned_item, turned_refused, turned_lacking, turned_modifier, turned_other, turned_unnamed)

@@ -1,5 +1,5 @@
 -- One rule, and what parts it from the next (docs/RULES.md, 1).
-use Rattle.std.specs.Prelude.{ℕ, ◌+◌, List, [], ◌∷◌, eqb, length, if◌then◌else◌}
+use Rattle.std.specs.Prelude.{ℕ, ◌+◌, List, [], ◌∷◌, eqb, length, Result, Ok, if◌then◌else◌}
 use Rattle.names.specs.Read.{Reader, pure, here, map, ◌>>=◌, ◌>>◌, ◌or◌}
 use Rattle.names.specs.Chain.{chain}
 use Rattle.names.specs.Texts.{bytes, sign, all_of}
@@ -11,8 +11,7 @@ use Rattle.records.specs.declared.Comment.{Comment}
 use Rattle.names.specs.declared.Manner.{Manner}
 use Rattle.names.specs.declared.Cursor.{Cursor}
 use Rattle.rules.specs.declared.Opening.{Opening}
-use Rattle.rules.specs.declared.OpeningRead.{OpeningRead}
-use Rattle.rules.specs.declared.OpeningRead.TheVariants.{Got}
+use Rattle.names.specs.declared.refusals.Refusal.{Refusal}
 use Rattle.rules.specs.declared.Stage.{Stage}
 use Rattle.rules.specs.declared.Stage.TheVariants.{Beginning, Always, Colon}
 use Rattle.rules.specs.declared.Tail.{Tail}
@@ -40,8 +39,8 @@ unfoldable pub opening : Reader Opening
 opening = always or wide_comment or pure (opening_of Beginning no_comment)
 
 -- an opening without a comment, as the code answers it
-abbrev pub plain_at : Stage → Cursor → OpeningRead
-plain_at stage c = Got (opening_of stage no_comment) c
+abbrev pub plain_at : Stage → Cursor → Result (Opening × Cursor) Refusal
+plain_at stage c = Ok (opening_of stage no_comment, c)
 
 -- the modifier's comment wins over the wide part's
 unfoldable pub wins : Comment → Comment → Comment

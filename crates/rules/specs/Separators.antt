@@ -1,9 +1,7 @@
 -- What parts a rule from the next (docs/RULES.md, 1).
-use Rattle.std.specs.Prelude.{◌||◌, eqb, length, get_or}
+use Rattle.std.specs.Prelude.{ℕ, Option, Some, None, ◌||◌, eqb, length, get_or}
 use Rattle.names.specs.Read.{Reader, pure, ◌>>◌, ◌or◌, only, ahead, at_end}
 use Rattle.names.specs.Texts.{sign}
-use Rattle.rules.specs.declared.Next.{Next}
-use Rattle.rules.specs.declared.Next.TheVariants.{Another, Finished}
 
 -- `,` followed by a blank
 unfoldable pub comma_blank : Reader (Unit {0})
@@ -18,12 +16,12 @@ bars = do
   sign "|"
 
 -- rules are parted by `;` (0), by `,` followed by a blank (1), or by `||` (2)
-unfoldable pub separator : Reader Next
-separator = (do sign ";"; pure (Another 0)) or (do comma_blank; pure (Another 1)) or (do bars; pure (Another 2))
+unfoldable pub separator : Reader (Option ℕ)
+separator = (do sign ";"; pure (Some 0)) or (do comma_blank; pure (Some 1)) or (do bars; pure (Some 2))
 
--- the text's end, or what parts a rule from the next
-unfoldable pub next : Reader Next
-next = (do at_end; pure Finished) or separator
+-- the text's end, which is none, or what parts a rule from the next
+unfoldable pub next : Reader (Option ℕ)
+next = (do at_end; pure None) or separator
 
 -- the text's end, or `;`
 unfoldable pub stop : Reader (Unit {0})

@@ -7,6 +7,7 @@ use crate::Tail;
 use records::{Comment, Head};
 
 // The modifier's comment wins over the wide part's.
+#[tactic(auto, unfolding(crate::specs::Rules::wins))]
 fn wins(c: Comment, wide: Comment) -> Comment
     ensures { result ≡ rules.wins c wide }
 {
@@ -17,7 +18,7 @@ fn wins(c: Comment, wide: Comment) -> Comment
 fn tail_warnings(t: Tail) -> usize
     ensures { result ≡ rules.tail_warnings t }
 {
-    if t.odd { 1 } else { 0 }
+    usize::from(t.odd)
 }
 
 // A rule's head: its items call for so many warnings.
@@ -32,15 +33,12 @@ pub fn head_of(
     requires { warned ≤ most_warnings }
     ensures { result ≡ rules.head_of place separator t wide items warned }
 {
-    let c = t.comment;
-    let comment = wins(c, wide);
-    let warnings = warned + tail_warnings(t);
     Head {
         place,
         separator,
         state: t.state,
-        comment,
+        comment: wins(t.comment, wide),
         items,
-        warnings,
+        warnings: warned + tail_warnings(t),
     }
 }

@@ -10,10 +10,10 @@ mod rows;
 mod separators;
 
 pub use heads::head_of;
-use items::Kind;
-use names::Cursor;
+use items::{Kind, Kinds, PlacedItem};
+use names::{Cursor, Refusal};
 pub use openings::begin;
-use records::{Comment, Item};
+use records::Comment;
 pub use separators::next_rule;
 
 // What was read last in a rule: nothing yet, `24/7`, the comment of a wide part and its colon, or an item of a kind.
@@ -33,6 +33,7 @@ pub struct Opening {
 }
 
 // How a rule ends: 0 open, 1 closed, 2 unknown, the modifier's comment, and whether the modifier's word is written unusually.
+// (The state stays a number: it is the value of the modifier's word in the table of names, and what the rule's record holds. An enum would only be turned back.)
 #[derive(Clone, Copy)]
 pub struct Tail {
     pub state: u8,
@@ -47,46 +48,26 @@ pub struct Spot {
     pub stage: Stage,
 }
 
-// What reading a comment finds: it and the place after it, none, or a refusal with its number and place.
-#[derive(Clone, Copy)]
-pub enum CommentRead {
-    Got(Comment, Cursor),
-    Missing,
-    Refused(u8, usize),
-}
-
-// A piece of a rule: an item, its place, its kind and the place after it; the rule's end and the place after it; or a refusal with its number and place.
+// A piece of a rule: an item, or the rule's end.
 #[derive(Clone, Copy)]
 pub enum Piece {
-    Item(Item, usize, Kind, Cursor),
-    End(Tail, Cursor),
-    Refused(u8, usize),
+    Item(PlacedItem),
+    End(Tail),
 }
 
-// Where a rule goes on: the place, what may stand there and whether it has to; or the rule ends.
+// Where a rule goes on: the place, what may stand there and whether it has to.
 #[derive(Clone, Copy)]
-enum Turn {
-    On(Cursor, u16, bool),
-    Over,
+struct Turn {
+    at: Cursor,
+    wanted: Kinds,
+    must: bool,
 }
 
-// How a rule begins, and the place after it; or a refusal with its number and place.
-#[derive(Clone, Copy)]
-pub enum OpeningRead {
-    Got(Opening, Cursor),
-    Refused(u8, usize),
-}
+// What reading a comment finds: it and the place after it, none, or a refusal.
+pub type CommentRead = Result<Option<(Comment, Cursor)>, Refusal>;
 
-// What stands after a rule: a separator and then a rule, or the text's end.
-#[derive(Clone, Copy)]
-pub enum Next {
-    Another(u8),
-    Finished,
-}
+// A piece of a rule and the place after it, or a refusal.
+pub type PieceRead = Result<(Piece, Cursor), Refusal>;
 
-// What reading a separator finds.
-#[derive(Clone, Copy)]
-pub enum NextRead {
-    Got(Next, Cursor),
-    Missing,
-}
+// How a rule begins, and the place after it; or a refusal.
+pub type OpeningRead = Result<(Opening, Cursor), Refusal>;

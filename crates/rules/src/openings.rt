@@ -1,79 +1,59 @@
 // How a rule begins: `24/7`, or the comment of a wide part and `:`, or neither.
 ghost use Rattle.std.specs.Prelude.{◌≡◌};
-ghost use Rattle.names.specs.Seen.{seen_step};
+ghost use Rattle.names.specs.Seen.{seen_step, seen_judged};
 ghost use Rattle.names.specs.Texts.{bytes, all_of};
 ghost use Rattle.rules.specs.Rules as rules;
 ghost use Rattle.rules.specs.Seen.{seen_opening};
 
-use crate::comments::comment;
-use crate::{CommentRead, Opening, OpeningRead, Stage};
-use names::{Cursor, Step};
-use records::Comment;
+use crate::comments::{NO_COMMENT, comment};
+use crate::{Opening, OpeningRead, Stage};
+use names::{Cursor, Refusal};
 
 // `24/7`
-fn always(s: &[u8], c: Cursor) -> Step
+#[tactic(auto, using(crate::proofs::Laws::always_is))]
+fn always(s: &[u8], c: Cursor) -> Option<Cursor>
     ensures { all_of (λ b. b) (bytes "24/7") s.now c.at ≡ seen_step result }
 {
-    let two = c.sign(s, b'2');
-    let Step::Got(d) = two else {
-        return two;
+    c.sign(s, b'2')?.sign(s, b'4')?.sign(s, b'/')?.sign(s, b'7')
+}
+
+// The comment of a wide part and `:`.
+#[tactic(auto, unfolding(crate::specs::Rules::wide_comment))]
+fn wide_comment(s: &[u8], c: Cursor) -> Result<Option<(Opening, Cursor)>, Refusal>
+    ensures { rules.wide_comment s.now c.at ≡ seen_judged (λ o. o) result }
+{
+    let Some((comment, d)) = comment(s, c)? else {
+        return Ok(None);
     };
-    let four = d.sign(s, b'4');
-    let Step::Got(e) = four else {
-        return four;
+    let Some(e) = d.sign(s, b':') else {
+        return Ok(None);
     };
-    let slash = e.sign(s, b'/');
-    let Step::Got(f) = slash else {
-        return slash;
-    };
-    f.sign(s, b'7')
+    let stage = Stage::Colon;
+    Ok(Some((Opening { stage, comment }, e)))
 }
 
 // An opening without a comment.
 fn plain(stage: Stage, c: Cursor) -> OpeningRead
     ensures { result ≡ rules.plain_at stage c }
 {
-    OpeningRead::Got(
-        Opening {
-            stage,
-            comment: Comment {
-                start: 0,
-                length: 0,
-            },
-        },
-        c,
-    )
+    let comment = NO_COMMENT;
+    Ok((Opening { stage, comment }, c))
 }
 
 // How a rule begins.
+#[tactic(auto, using(crate::proofs::Laws::no_wide_lem), unfolding(crate::specs::Rules::opening, crate::specs::Rules::always))]
 pub fn begin(s: &[u8], c: Cursor) -> OpeningRead
     ensures { rules.opening s.now c.at ≡ seen_opening result }
 {
-    let whole = always(s, c);
-    if let Step::Got(d) = whole {
+    if let Some(d) = always(s, c) {
         return plain(Stage::Always, d);
     }
     // Most rules begin with no quote: they are told before a comment is read.
-    let quote = c.sign(s, b'"');
-    let Step::Got(_) = quote else {
+    if c.sign(s, b'"').is_none() {
         return plain(Stage::Beginning, c);
-    };
-    let wide = comment(s, c);
-    match wide {
-        CommentRead::Got(some, e) => {
-            let colon = e.sign(s, b':');
-            match colon {
-                Step::Got(f) => OpeningRead::Got(
-                    Opening {
-                        stage: Stage::Colon,
-                        comment: some,
-                    },
-                    f,
-                ),
-                Step::Missing => plain(Stage::Beginning, c),
-            }
-        }
-        CommentRead::Missing => plain(Stage::Beginning, c),
-        CommentRead::Refused(k, p) => OpeningRead::Refused(k, p),
+    }
+    match wide_comment(s, c)? {
+        Some(wide) => Ok(wide),
+        None => plain(Stage::Beginning, c),
     }
 }

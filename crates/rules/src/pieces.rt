@@ -11,78 +11,80 @@ ghost use Rattle.rules.specs.Pieces as pieces;
 ghost use Rattle.rules.specs.Seen.{seen_piece, Lacks, turned, ColonTurns, BlankTurns};
 ghost use Rattle.rules.specs.declared.Stage.TheVariants as stage;
 
-use crate::comments::comment;
-use crate::modifiers::{no_comment, with_comment};
+use crate::comments::{NO_COMMENT, comment};
+use crate::modifiers::{open_end, with_comment};
 use crate::rows::{FIRST, SMALL, following, is_wide, listed};
 use crate::separators::next_rule;
-use crate::{CommentRead, NextRead, Piece, Spot, Stage, Tail, Turn};
-use items::{Kind, NO_KIND, Stands, look_at, missing};
-use names::{Cursor, EMPTY_RULE, MODIFIER, Manner, Step};
+use crate::{Piece, PieceRead, Spot, Stage, Turn};
+use items::{Kind, Kinds, NO_KIND, Stands, look_at, missing};
+use names::{Cursor, Manner, NameKind, Reason, Refusal};
 
 // After a colon a blank and a small part have to stand.
+#[tactic(auto, using(crate::proofs::Turns::colons), unfolding(items::specs::Sets::bit_of, items::specs::Sets::has, items::specs::Sets::kinds_of, items::specs::Sets::picked))]
 fn after_colon(s: &[u8], c: Cursor) -> Turn
     ensures { ColonTurns s.now c.at result }
 {
-    let before = c.blank(s);
-    match before {
-        Step::Got(d) => Turn::On(d, SMALL, true),
-        Step::Missing => Turn::On(c, NO_KIND, true),
-    }
+    let (at, wanted) = match c.blank(s) {
+        Some(d) => (d, SMALL),
+        None => (c, NO_KIND),
+    };
+    let must = true;
+    Turn { at, wanted, must }
 }
 
 // After a blank one of these kinds may stand.
-fn after_blank(s: &[u8], c: Cursor, set: u16) -> Turn
-    ensures { BlankTurns (kinds_of set) s.now c.at result }
+#[tactic(auto, using(crate::proofs::Turns::blanks))]
+fn after_blank(s: &[u8], c: Cursor, wanted: Kinds) -> Option<Turn>
+    ensures { BlankTurns (kinds_of wanted.bits) s.now c.at result }
 {
-    let before = c.blank(s);
-    match before {
-        Step::Got(d) => Turn::On(d, set, false),
-        Step::Missing => Turn::Over,
-    }
+    let at = c.blank(s)?;
+    let must = false;
+    Some(Turn { at, wanted, must })
 }
 
 // The colon of a wide part.
-fn colon_sign(s: &[u8], c: Cursor, kind: Kind) -> Step
+#[tactic(auto, unfolding(crate::specs::Pieces::colon_sign))]
+fn colon_sign(s: &[u8], c: Cursor, kind: Kind) -> Option<Cursor>
     ensures { pieces.colon_sign kind s.now c.at ≡ seen_step result }
 {
-    if is_wide(kind) {
-        c.sign(s, b':')
-    } else {
-        Step::Missing
-    }
+    if is_wide(kind) { c.sign(s, b':') } else { None }
 }
 
 // After an item of this kind.
-fn after_item(s: &[u8], c: Cursor, kind: Kind) -> Turn
+#[tactic(auto, using(crate::proofs::Turns::after_items))]
+fn after_item(s: &[u8], c: Cursor, kind: Kind) -> Option<Turn>
     ensures { (m : Manner) → pieces.piece m (stage.After kind) s.now c.at ≡ turned m s.now (stage.After kind) c.at result }
 {
-    let comma = c.comma(s);
-    if let Step::Got(d) = comma {
-        return Turn::On(d, listed(kind), true);
+    if let Some(at) = c.comma(s) {
+        let wanted = listed(kind);
+        let must = true;
+        return Some(Turn { at, wanted, must });
     }
-    let colon = colon_sign(s, c, kind);
-    match colon {
-        Step::Got(e) => after_colon(s, e),
-        Step::Missing => after_blank(s, c, following(kind)),
+    match colon_sign(s, c, kind) {
+        Some(d) => Some(after_colon(s, d)),
+        None => after_blank(s, c, following(kind)),
     }
 }
 
 // What has to stand at c and does not.
-fn lacking(s: &[u8], c: Cursor) -> Piece
+#[tactic(auto, using(items::proofs::Quotes::lack_is))]
+fn lacking(s: &[u8], c: Cursor) -> PieceRead
     ensures { Lacks s.now c.at result }
 {
-    let lack = missing(s, c);
-    Piece::Refused(lack.number, lack.place)
+    Err(missing(s, c))
 }
 
 // A rule at c of which nothing was read: it is empty, or something else stands there.
-fn nothing_read(s: &[u8], c: Cursor) -> Piece
+#[tactic(auto, using(crate::proofs::Turns::nothings))]
+fn nothing_read(s: &[u8], c: Cursor) -> PieceRead
     ensures { map inr (pieces.plain_end stage.Beginning) s.now c.at ≡ seen_piece result }
 {
-    let next = next_rule(s, c);
-    match next {
-        NextRead::Got(_, _) => Piece::Refused(EMPTY_RULE, c.at),
-        NextRead::Missing => lacking(s, c),
+    match next_rule(s, c) {
+        Some(_) => Err(Refusal {
+            reason: Reason::EmptyRule,
+            place: c.at,
+        }),
+        None => lacking(s, c),
     }
 }
 
@@ -97,88 +99,63 @@ impl Spot {
         }
     }
 
-    // Where the rule goes on.
-    fn turn(self, s: &[u8]) -> Turn
+    // Where the rule goes on; nowhere, where it ends.
+    #[tactic(auto, using(crate::proofs::Turns::stages), unfolding(items::specs::Sets::bit_of, items::specs::Sets::has, items::specs::Sets::kinds_of, items::specs::Sets::picked))]
+    fn turn(self, s: &[u8]) -> Option<Turn>
         ensures { (m : Manner) → pieces.piece m self.stage s.now self.at ≡ turned m s.now self.stage self.at result }
     {
         let c = Cursor { at: self.at };
-        let stage = self.stage;
-        match stage {
-            Stage::Beginning => Turn::On(c, FIRST, false),
+        match self.stage {
+            Stage::Beginning => Some(Turn {
+                at: c,
+                wanted: FIRST,
+                must: false,
+            }),
             Stage::Always => after_blank(s, c, NO_KIND),
-            Stage::Colon => after_colon(s, c),
+            Stage::Colon => Some(after_colon(s, c)),
             Stage::After(kind) => after_item(s, c, kind),
         }
     }
 
     // The rule's end, where neither an item nor a modifier stands: open, if it has selectors.
-    fn ended(self, s: &[u8]) -> Piece
+    #[tactic(auto, using(crate::proofs::Laws::open_end))]
+    fn ended(self, s: &[u8]) -> PieceRead
         ensures { map inr (pieces.plain_end self.stage) s.now self.at ≡ seen_piece result }
     {
-        let at = self.at;
-        let stage = self.stage;
-        match stage {
-            Stage::Beginning => nothing_read(s, Cursor { at }),
-            _ => {
-                let none = no_comment();
-                Piece::End(
-                    Tail {
-                        state: 0,
-                        comment: none,
-                        odd: false,
-                    },
-                    Cursor { at },
-                )
-            }
+        let c = Cursor { at: self.at };
+        match self.stage {
+            Stage::Beginning => nothing_read(s, c),
+            _ => Ok((open_end(NO_COMMENT), c)),
         }
     }
 
     // A comment alone at c, or else the rule's end.
-    fn noted(self, s: &[u8], c: Cursor) -> Piece
+    fn noted(self, s: &[u8], c: Cursor) -> PieceRead
         ensures { branch comment (λ m. pure (inr (tail_of 0 m false))) (λ s _. map inr (pieces.plain_end self.stage) s self.at) s.entry.now c.at ≡ seen_piece result }
     {
-        let alone = comment(s, c);
-        match alone {
-            CommentRead::Got(some, d) => Piece::End(
-                Tail {
-                    state: 0,
-                    comment: some,
-                    odd: false,
-                },
-                d,
-            ),
-            CommentRead::Missing => self.ended(s),
-            CommentRead::Refused(k, p) => Piece::Refused(k, p),
+        match comment(s, c)? {
+            Some((alone, d)) => Ok((open_end(alone), d)),
+            None => self.ended(s),
         }
     }
 
     // The next piece of a rule.
-    pub fn piece(self, s: &[u8], m: Manner) -> Piece
+    #[tactic(auto, using(crate::proofs::Turns::turns))]
+    pub fn piece(self, s: &[u8], m: Manner) -> PieceRead
         ensures { pieces.piece m self.stage s.now self.at ≡ seen_piece result }
     {
-        let turn = self.turn(s);
-        let Turn::On(c, set, must) = turn else {
+        let Some(turn) = self.turn(s) else {
             return self.ended(s);
         };
-        let found = look_at(s, m, c, set);
-        match found {
-            Stands::Item(a, p, kind, d) => Piece::Item(a, p, kind, d),
-            Stands::Refused(k, p) => Piece::Refused(k, p),
-            Stands::Name(kind, value, d) => {
-                if must {
-                    return lacking(s, c);
-                }
-                if kind == MODIFIER {
-                    return with_comment(s, d, value, c.odd(s, MODIFIER, d));
-                }
-                self.ended(s)
+        let c = turn.at;
+        match look_at(s, m, c, turn.wanted)? {
+            Stands::Item(item, d) => Ok((Piece::Item(item), d)),
+            Stands::Name(..) | Stands::Nothing if turn.must => lacking(s, c),
+            Stands::Name(name, d) if name.kind == NameKind::Modifier => {
+                with_comment(s, d, name.value, c.odd(s, name.kind.number(), d))
             }
-            Stands::Nothing => {
-                if must {
-                    return lacking(s, c);
-                }
-                self.noted(s, c)
-            }
+            Stands::Name(..) => self.ended(s),
+            Stands::Nothing => self.noted(s, c),
         }
     }
 }

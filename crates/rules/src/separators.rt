@@ -4,60 +4,48 @@ ghost use Rattle.names.specs.Seen.{seen_step};
 ghost use Rattle.rules.specs.Separators as separators;
 ghost use Rattle.rules.specs.Seen.{seen_next};
 
-use crate::{Next, NextRead};
-use names::{Cursor, Step};
+use names::Cursor;
 
 // `,` followed by a blank.
-fn comma_blank(s: &[u8], c: Cursor) -> Step
+#[tactic(auto, unfolding(crate::specs::Separators::comma_blank, names::specs::Read::ahead))]
+fn comma_blank(s: &[u8], c: Cursor) -> Option<Cursor>
     ensures { separators.comma_blank s.now c.at ≡ seen_step result }
 {
-    let comma = c.sign(s, b',');
-    let Step::Got(d) = comma else {
-        return comma;
-    };
-    if d.byte(s) == b' ' {
-        Step::Got(d)
-    } else {
-        Step::Missing
-    }
+    let d = c.sign(s, b',')?;
+    if d.byte(s) == b' ' { Some(d) } else { None }
 }
 
 // `||`
-fn bars(s: &[u8], c: Cursor) -> Step
+#[tactic(auto, unfolding(crate::specs::Separators::bars))]
+fn bars(s: &[u8], c: Cursor) -> Option<Cursor>
     ensures { separators.bars s.now c.at ≡ seen_step result }
 {
-    let bar = c.sign(s, b'|');
-    let Step::Got(d) = bar else {
-        return bar;
-    };
+    let d = c.sign(s, b'|')?;
     d.sign(s, b'|')
 }
 
 // What parts a rule from the next.
-fn separator(s: &[u8], c: Cursor) -> NextRead
+#[tactic(auto, unfolding(crate::specs::Separators::separator))]
+fn separator(s: &[u8], c: Cursor) -> Option<(Option<u8>, Cursor)>
     ensures { separators.separator s.now c.at ≡ seen_next result }
 {
-    let semicolon = c.sign(s, b';');
-    if let Step::Got(d) = semicolon {
-        return NextRead::Got(Next::Another(0), d);
+    if let Some(d) = c.sign(s, b';') {
+        return Some((Some(0), d));
     }
-    let comma = comma_blank(s, c);
-    if let Step::Got(e) = comma {
-        return NextRead::Got(Next::Another(1), e);
+    if let Some(d) = comma_blank(s, c) {
+        return Some((Some(1), d));
     }
-    let fallback = bars(s, c);
-    let Step::Got(f) = fallback else {
-        return NextRead::Missing;
-    };
-    NextRead::Got(Next::Another(2), f)
+    let d = bars(s, c)?;
+    Some((Some(2), d))
 }
 
-// The text's end, or what parts a rule from the next.
-pub fn next_rule(s: &[u8], c: Cursor) -> NextRead
+// The number of what parts a rule from the next, or none at the text's end; and the place after it.
+#[tactic(auto, unfolding(crate::specs::Separators::next, names::specs::Read::at_end))]
+pub fn next_rule(s: &[u8], c: Cursor) -> Option<(Option<u8>, Cursor)>
     ensures { separators.next s.now c.at ≡ seen_next result }
 {
     if c.at == s.len() {
-        return NextRead::Got(Next::Finished, c);
+        return Some((None, c));
     }
     separator(s, c)
 }

@@ -25,11 +25,9 @@ use Rattle.rules.proofs.Cut.{rule_local}
 use Rattle.rules.proofs.Places.{places_rise}
 use Rattle.house.specs.Breaks.{rules_break, judged_by}
 use Rattle.house.specs.Profile.{Each}
-use Rattle.house.specs.declared.Break.{Break}
-use Rattle.house.specs.declared.Break.TheVariants.{Nowhere, At}
+use Rattle.house.specs.Spans.{Break}
 use Rattle.house.proofs.Places.{Broken, OfItem, OfRule, more_broken, none_broken, judged_broken}
-use Rattle.rules.specs.declared.Next.{Next}
-use Rattle.rules.specs.declared.Next.TheVariants.{Another, Finished}
+use Rattle.std.specs.Prelude.{Option, Some, None}
 use Rattle.text_rules.specs.Texts.{after_rule, parted, more_rules, no_more, rules, unbroken, judged_rules, records, warnings}
 use Rattle.sheet.specs.Sheets.{answer_of, refusal, judged_text, text_of, sheet_by, sheet_reading_bytes_by, words_in}
 use Rattle.parts.specs.Parts.{begins, part_end}
@@ -44,7 +42,7 @@ use Rattle.parts.proofs.PartLaws.{begins_fits, end_fits}
 -- ---- places and records
 
 -- a rule of a text is refused at one of its places
-more_near : (m : Manner) (x : Next) (s : List ℕ) (i : ℕ) → i ≤ length s → Near m (length s) (more_rules m x s i)
+more_near : (m : Manner) (x : (Option ℕ)) (s : List ℕ) (i : ℕ) → i ≤ length s → Near m (length s) (more_rules m x s i)
 more_near m x s i h = near_up m (more_rules m x s i) (omega arith) ((more_rules_ended m {u = []} x).near s i (omega arith))
 
 -- a break or a refusal is at a place up to n
@@ -56,7 +54,7 @@ items_placed : (n i k : ℕ) (l : List Placed) → k ≤ n → Rising i l k → 
 items_placed n i k [] h r = tt
 items_placed n i k (a ∷ l) h r = let e : a.1 ≤ n = omega (arith, r.1) in ((e, e), items_placed n (suc a.1) k l h r.2)
 
-more_placed : (m : Manner) (separator : ℕ) (s : List ℕ) (i : ℕ) → Upto (λ x k. OfRule (UpTo (length s)) x.0) (more_rules m (Another separator) s i)
+more_placed : (m : Manner) (separator : ℕ) (s : List ℕ) (i : ℕ) → Upto (λ x k. OfRule (UpTo (length s)) x.0) (more_rules m (Some separator) s i)
 unfolding more_rules parted
 more_placed m separator s i =
     upto_then P s i _ (blanks s i) (λ _ j e.
@@ -65,7 +63,7 @@ more_placed m separator s i =
     let w : OfRule (UpTo (length s)) r = (omega (arith, h.0, past_one (rule_local m separator) f), items_placed (length s) j k r.1 h.2 h.1) in
     upto_then P s k _ (blanks s k) (λ _ l g. upto_then P s l _ (must next s l) (λ n q o. w))))
   where
-    P : Rule × Next → ℕ → Type 0
+    P : Rule × Option ℕ → ℕ → Type 0
     P x k = OfRule (UpTo (length s)) x.0
 
 -- from the place i on there are no more records than bytes, at most 6 warnings for each, and a break or a refusal is at a place of the text
@@ -76,7 +74,7 @@ Bounded n i (refused k p) = p ≤ n
 
 module _ (m : Manner) (s : List ℕ) where
   -- a rule more
-  bounded_more : (c : Rule × Next) (i j : ℕ) → Taking i c j → OfRule (UpTo (length s)) c.0 → (x : Read (List Rule × Unit {0})) → Bounded (length s) j x →
+  bounded_more : (c : Rule × Option ℕ) (i j : ℕ) → Taking i c j → OfRule (UpTo (length s)) c.0 → (x : Read (List Rule × Unit {0})) → Bounded (length s) j x →
       Bounded (length s) i (follow s j x (λ l. pure (before c.0 l)) nothing)
   unfolding warnings
   bounded_more c i j h w (got l k) b =
@@ -86,27 +84,27 @@ module _ (m : Manner) (s : List ℕ) where
   bounded_more c i j h w (refused e p) b = b
 
   -- no rule more
-  finished : (n i : ℕ) → i ≤ length s → Bounded (length s) i (follow s i (more_rules m Finished s i) (λ c. map (before c.0) (chain_in n (more_rules m) no_more c.1)) (map last (no_more Finished)))
+  finished : (n i : ℕ) → i ≤ length s → Bounded (length s) i (follow s i (more_rules m None s i) (λ c. map (before c.0) (chain_in n (more_rules m) no_more c.1)) (map last (no_more None)))
   unfolding more_rules no_more warnings
   finished n i h = (omega (arith, records_none), none_broken (UpTo (length s)), omega arith)
 
-  bounded : (n : ℕ) (x : Next) (i : ℕ) → i ≤ length s → Bounded (length s) i (chain_in n (more_rules m) no_more x s i)
+  bounded : (n : ℕ) (x : (Option ℕ)) (i : ℕ) → i ≤ length s → Bounded (length s) i (chain_in n (more_rules m) no_more x s i)
   unfolding chain_in no_more
   bounded zero x i h = tt
-  bounded (suc n) (Another q) i h = go (λ y j w. bounded n y j w) (more_rules m (Another q) s i) (takes m (Another q) s i) (more_takes m q s i) (more_placed m q s i) (more_near m (Another q) s i h)
+  bounded (suc n) (Some q) i h = go (λ y j w. bounded n y j w) (more_rules m (Some q) s i) (takes m (Some q) s i) (more_takes m q s i) (more_placed m q s i) (more_near m (Some q) s i h)
     where
-      go : ((y : Next) (j : ℕ) → j ≤ length s → Bounded (length s) j (chain_in n (more_rules m) no_more y s j)) →
-          (r : Read (Rule × Next)) → Ends (λ j. (i < j) × (j ≤ length s)) r → Upto (Taking i) r → Upto (λ x k. OfRule (UpTo (length s)) x.0) r → Near m (length s) r →
-          Bounded (length s) i (follow s i r (λ c. map (before c.0) (chain_in n (more_rules m) no_more c.1)) (map last (no_more (Another q))))
+      go : ((y : (Option ℕ)) (j : ℕ) → j ≤ length s → Bounded (length s) j (chain_in n (more_rules m) no_more y s j)) →
+          (r : Read (Rule × Option ℕ)) → Ends (λ j. (i < j) × (j ≤ length s)) r → Upto (Taking i) r → Upto (λ x k. OfRule (UpTo (length s)) x.0) r → Near m (length s) r →
+          Bounded (length s) i (follow s i r (λ c. map (before c.0) (chain_in n (more_rules m) no_more c.1)) (map last (no_more (Some q))))
       go later (got c j) e f o w = bounded_more c i j f o (chain_in n (more_rules m) no_more c.1 s j) (later c.1 j e.1)
       go later none e f o w = tt
       go later (refused k p) e f o w = w.1
-  bounded (suc n) Finished i h = finished n i h
+  bounded (suc n) None i h = finished n i h
 
   -- the rules of a text
   rules_bounded : (p : ℕ) → p ≤ length s → Bounded (length s) p (rules m s p)
   unfolding rules chain
-  rules_bounded p h = bounded (suc (length s)) (Another 0) p h
+  rules_bounded p h = bounded (suc (length s)) (Some 0) p h
 
   -- the records of a text are at most its bytes
   pub records_few : (p : ℕ) {l : List Rule × Unit {0}} {j : ℕ} → p ≤ length s → rules m s p ≡ got l j → p + length (records l.0) ≤ length s
@@ -118,8 +116,8 @@ module _ (m : Manner) (s : List ℕ) where
   judged_bounded p h = go (rules m s p) (rules_bounded p h)
     where
       unbroken_bounded : (l : List Rule × Unit {0}) (j : ℕ) → Bounded (length s) p (got l j) → (b : Break) → Broken (UpTo (length s)) b → Bounded (length s) p (unbroken l b s j)
-      unbroken_bounded l j h Nowhere w = h
-      unbroken_bounded l j h (At k q) w = w
+      unbroken_bounded l j h None w = h
+      unbroken_bounded l j h (Some r) w = w
 
       go : (x : Read (List Rule × Unit {0})) → Bounded (length s) p x → Bounded (length s) p (follow s p x (λ l. unbroken l (judged_by m (rules_break l.0))) nothing)
       go (got l j) h = unbroken_bounded l j h (judged_by m (rules_break l.0)) (judged_broken (UpTo (length s)) m (rules_break l.0) h.1)

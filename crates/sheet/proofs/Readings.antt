@@ -27,8 +27,10 @@ use Rattle.sheet.specs.PartReadings.{with_next, part_refusal, part_by}
 use Rattle.text_rules.specs.Seen.{seen_rules_into}
 use Rattle.sheet.specs.declared.Answer.{Answer}
 use Rattle.sheet.specs.declared.PartAnswer.{PartAnswer}
+use Rattle.std.specs.Prelude.{Result, Ok, Err}
+use Rattle.names.specs.declared.Cursor.{Cursor}
+use Rattle.names.specs.declared.refusals.Refusal.{Refusal}
 use Rattle.text_rules.specs.declared.Counted.{Counted}
-use Rattle.text_rules.specs.declared.Counted.TheVariants.{Got, Refused}
 
 -- ---- a text's records
 
@@ -136,12 +138,12 @@ module _ (m : Manner) (s : List ℕ) (p : ℕ) where
 
   module _ (t t' u : Tables) {n w : ℕ} (k : Kept m t t' s p n w) where
     -- read again into other tables
-    pub again : (r : Counted) {u' : Tables} → rules_into m u s p ≡ seen_rules_into r u' → u' ≡ all_kept u 0 (records k.list)
-    again (Got o v c) {u'} e =
-        let f : ◌≡◌ {A = Read Totals} (got (totals u (k.list, tt)) k.end) (got (o, v, u') c.at) = rw k.is at e in
-        let g : ◌≡◌ {A = Totals} (totals u (k.list, tt)) (o, v, u') = cc in
+    pub again : (r : Result (Counted × Cursor) Refusal) {u' : Tables} → rules_into m u s p ≡ seen_rules_into r u' → u' ≡ all_kept u 0 (records k.list)
+    again (Ok x) {u'} e =
+        let f : ◌≡◌ {A = Read Totals} (got (totals u (k.list, tt)) k.end) (got (x.0.records, x.0.warnings, u') x.1.at) = rw k.is at e in
+        let g : ◌≡◌ {A = Totals} (totals u (k.list, tt)) (x.0.records, x.0.warnings, u') = cc in
         sym (ap (λ (y : Totals). y.2) g)
-    again (Refused o q) e = let f : ◌≡◌ {A = Read Totals} (got (totals u (k.list, tt)) k.end) (refused o q) = rw k.is at e in cc
+    again (Err r) {u'} e = let f : ◌≡◌ {A = Read Totals} (got (totals u (k.list, tt)) k.end) (seen_rules_into (Err r) u') = rw k.is at e in cc
 
     -- taken out of the table of words, where it had room for all
     pub taken : n * 16 ≤ length t.0 → records_in n t'.0 ≡ records k.list

@@ -4,8 +4,8 @@ ghost use Rattle.sheet.specs.PartReadings as parts;
 ghost use Rattle.text_rules.specs.Into.{into};
 
 use crate::sheets::{read_text, refusal};
-use crate::{Answer, PartAnswer};
-use names::{Manner, NO_PART, TOO_LONG};
+use crate::{Answer, LONGEST, PartAnswer};
+use names::{Manner, Reason};
 use parts::{begins, part_end};
 
 // An answer, the next part's place and whether this was the last.
@@ -51,14 +51,13 @@ pub fn part_into(
 ) -> PartAnswer
     ensures { (result, (words.new, bytes.new)) ≡ into (words.old, bytes.old) (parts.part_by m sheet.now place (room * 16)) }
 {
-    if 4096 < sheet.len() {
-        return part_refusal(TOO_LONG);
+    if LONGEST < sheet.len() {
+        return part_refusal(Reason::TooLong as u8);
     }
-    if begins(sheet, place) {
-        let e = part_end(sheet, place);
-        let a = read_text(&sheet[..e], m, place, room, words, bytes);
-        with_next(sheet, e, a)
-    } else {
-        part_refusal(NO_PART)
+    if !begins(sheet, place) {
+        return part_refusal(Reason::NoPart as u8);
     }
+    let e = part_end(sheet, place);
+    let a = read_text(&sheet[..e], m, place, room, words, bytes);
+    with_next(sheet, e, a)
 }

@@ -4,12 +4,12 @@ ghost use Rattle.lent_slots.specs.Tables.{all_kept, records_in};
 ghost use Rattle.sheet.specs.Sheets as sheets;
 ghost use Rattle.text_rules.specs.Into.{into};
 
-use crate::Answer;
+use crate::{Answer, LONGEST};
 use lent_slots::{keep, words_at};
-use names::{Manner, NO_ROOM, TOO_LONG};
-use text_rules::{Counted, fill_rules};
+use names::{Manner, Reason};
+use text_rules::fill_rules;
 
-// A refusal gives 0 records and 0 warnings.
+// A refusal gives 0 records and 0 warnings. (It is a number, as an answer's is.)
 pub fn refusal(number: u8, place: usize) -> Answer
     ensures { result ≡ (sheets.refusal number place).0 }
 {
@@ -49,14 +49,14 @@ pub fn read_text(
 {
     let mut few = [0i32; FEW * 16];
     let mut none = [0u8; 0];
-    let counted = fill_rules(s, m, p, &mut few, &mut none);
-    match counted {
-        Counted::Got(n, warnings, _) => {
+    match fill_rules(s, m, p, &mut few, &mut none) {
+        Ok((counted, _)) => {
+            let n = counted.records;
             if room < n {
-                return refusal(NO_ROOM, p);
+                return refusal(Reason::NoRoom as u8, p);
             }
             if FEW < n {
-                fill_rules(s, m, p, words, bytes);
+                let _ = fill_rules(s, m, p, words, bytes);
             } else {
                 put_records(&few, n, words, bytes);
             }
@@ -64,10 +64,10 @@ pub fn read_text(
                 number: 0,
                 place: 0,
                 records: n,
-                warnings,
+                warnings: counted.warnings,
             }
         }
-        Counted::Refused(k, q) => refusal(k, q),
+        Err(refused) => refusal(refused.reason.number(), refused.place),
     }
 }
 
@@ -81,8 +81,8 @@ pub fn sheet_into(
 ) -> Answer
     ensures { (result, (words.new, bytes.new)) ≡ into (words.old, bytes.old) (sheets.sheet_by m sheet.now (room * 16)) }
 {
-    if 4096 < sheet.len() {
-        return refusal(TOO_LONG, 0);
+    if LONGEST < sheet.len() {
+        return refusal(Reason::TooLong as u8, 0);
     }
     read_text(sheet, m, 0, room, words, bytes)
 }

@@ -17,7 +17,7 @@ use Rattle.records.specs.Told.{candidate}
 use Rattle.tables.specs.Tables.{is_head, cut, rules_fit, records_fit, table_fits}
 use Rattle.lent_slots.specs.Slots.{slots, record_at, records_from, records_of, is_whole}
 use Rattle.lent_slots.proofs.SlotLaws.{slot_next, slot_end}
-use Rattle.table_rules.specs.Rules.{Rule, rules_from, rules_in, rule_at, items_up, rules_up, rule_of}
+use Rattle.table_rules.specs.Rules.{Rule, rules_from, rules_in, rule_at, items_up, rules_up, rule_of, IsFirstHead}
 
 -- the rules of a table are those from its first slot on
 pub rules_all : (t : Tables) → rules_up t 0 ≡ rules_in t
@@ -77,20 +77,38 @@ module _ (t : Tables) (k : ℕ) where
     unfolding rules_up
     rules_item e = ap (λ (p : List Item × List Rule). p.1) (at_item e)
 
--- the rule numbered j of those from a slot on
-pub first_rule_lem : (t : Tables) (k : ℕ) (rs : List Rule) → rule_at 0 (rule_of t k ∷ rs) ≡ some (record { head = k + 1 - 1; items = items_up t (k + 1) })
-unfolding rule_at
-first_rule_lem t k rs = let e : k + 1 - 1 ≡ k = omega arith in rw (e, add-one k)
+-- the same at the place after a slot, as the code counts
+module _ (t : Tables) (k : ℕ) where
+  pub rules_after_head : k < slots t → is_head (record_at t k) ≡ true → rules_up t k ≡ rule_of t k ∷ rules_up t (k + 1)
+  rules_after_head h e = rw (add-one k) (rules_head t k h e)
 
-pub later_rule : (j : ℕ) (r : Rule) (rs : List Rule) → (j ≡ 0 → ⊥) → rule_at j (r ∷ rs) ≡ rule_at (j - 1) rs
-unfolding rule_at
-later_rule zero r rs h = absurd (h refl)
-later_rule (suc j) r rs h = let e : suc j - 1 ≡ j = omega arith in rw e
+  pub rules_after_item : k < slots t → is_head (record_at t k) ≡ false → rules_up t k ≡ rules_up t (k + 1)
+  rules_after_item h e = rw (add-one k) (rules_item t k h e)
+
+-- the rules from a slot on where the first head is known
+pub next_rules : (t : Tables) (j k : ℕ) → IsFirstHead t j k → rules_up t j ≡ record { head = k; items = items_up t (k + 1) } ∷ rules_up t (k + 1)
+next_rules t j k h = h.same ∙ rules_after_head t k h.within h.is_head_lem ∙ rw (add-one k)
 
 pub no_rule : (j : ℕ) → rule_at j [] ≡ none
 unfolding rule_at
 no_rule zero = refl
 no_rule (suc j) = refl
+
+later_rule : (j : ℕ) (r : Rule) (rs : List Rule) → rule_at (suc j) (r ∷ rs) ≡ rule_at j rs
+unfolding rule_at
+later_rule j r rs = refl
+
+first_rule_lem : (t : Tables) (k : ℕ) (rs : List Rule) → rule_at 0 (rule_of t k ∷ rs) ≡ some (record { head = k + 1 - 1; items = items_up t (k + 1) })
+unfolding rule_at
+first_rule_lem t k rs = let e : k + 1 - 1 ≡ k = omega arith in rw (e, add-one k)
+
+-- at a head, the rule numbered n where i rules are passed
+module _ (t : Tables) (k : ℕ) (h : k < slots t) (e : is_head (record_at t k) ≡ true) where
+  pub rule_there : (n i : ℕ) → n ≤ i → rule_at (n - i) (rules_up t k) ≡ some (record { head = k + 1 - 1; items = items_up t (k + 1) })
+  rule_there n i l = let z : n - i ≡ 0 = omega arith in rw (z, rules_after_head t k h e) (first_rule_lem t k (rules_up t (k + 1)))
+
+  pub rule_later : (n i : ℕ) → i < n → rule_at (n - i) (rules_up t k) ≡ rule_at (n - (i + 1)) (rules_up t (k + 1))
+  rule_later n i l = let z : n - i ≡ suc (n - (i + 1)) = omega arith in rw (z, rules_after_head t k h e) (later_rule (n - (i + 1)) (rule_of t k) (rules_up t (k + 1)))
 
 -- ---- a table that fits has a rule
 
@@ -126,3 +144,7 @@ fits_rule t e =
   where
     more : (n : ℕ) → (n ≡ 0 → ⊥) → 1 ≤ n
     more n h = omega arith
+
+pub ruleset head_steps = (rules_all, rules_end, rules_after_head, rules_after_item)
+
+pub ruleset rule_steps = (rules_all, no_rule, rule_there, rule_later)

@@ -1,13 +1,12 @@
 -- The rules of a table: each has its head's number, counted from 0, and its items, those up to the next head.
-use Rattle.std.specs.Prelude.{ℕ, zero, suc, ◌-◌, ◌≤◌, ◌<◌, true, List, [], ◌∷◌, ◌≡◌, ℤ, if◌then◌else◌}
-use Rattle.std.proofs.Math.Option.{Option, none, some}
+use Rattle.std.specs.Prelude.{ℕ, zero, suc, ◌-◌, ◌≤◌, ◌<◌, true, List, [], ◌∷◌, ◌≡◌, ℤ, Option, Some, None, if◌then◌else◌}
+use Rattle.std.proofs.Math.Option.{none, some}
+use Rattle.std.proofs.Math.Option as maths
 use Rattle.lent_slots.specs.Tables.{Tables}
 use Rattle.records.specs.declared.Item.{Item}
 use Rattle.records.specs.Told.{candidate}
 use Rattle.tables.specs.Tables.{is_head}
 use Rattle.lent_slots.specs.Slots.{slots, record_at, records_from, records_of}
-use Rattle.table_rules.specs.declared.RuleItems.{RuleItems}
-use Rattle.table_rules.specs.declared.RuleItems.TheVariants.{From, Nothing}
 
 pub record Rule : Type 0 where
   pub head : ℕ
@@ -25,7 +24,7 @@ abbrev pub rules_in : Tables → List Rule
 rules_in t = (rules_from 0 (records_of t)).1
 
 -- the rule numbered k, from 0, if there is one
-unfoldable pub rule_at : ℕ → List Rule → Option Rule
+unfoldable pub rule_at : ℕ → List Rule → maths.Option Rule
 rule_at k [] = none
 rule_at zero (r ∷ rs) = some r
 rule_at (suc k) (r ∷ rs) = rule_at k rs
@@ -45,12 +44,18 @@ abbrev pub rule_of : Tables → ℕ → Rule
 rule_of t k = record { head = k; items = items_up t (suc k) }
 
 -- what the code's answer says: the items are from slot k on, after the head
-abbrev pub found : Tables → RuleItems → Option Rule
-found t (From k) = some (record { head = k - 1; items = items_up t k })
-found t Nothing = none
+abbrev pub found : Tables → Option ℕ → maths.Option Rule
+found t (Some k) = some (record { head = k - 1; items = items_up t k })
+found t None = none
 
--- k is the slot of the first head from slot j on, or past the last slot
-pub record NextHead (t : Tables) (j k : ℕ) : Type 0 where
+-- k is the slot of the first head from slot j on
+pub record IsFirstHead (t : Tables) (j k : ℕ) : Type 0 where
   pub later : j ≤ k
+  pub within : k < slots t
   pub same : rules_up t j ≡ rules_up t k
-  pub is_head_lem : k < slots t → is_head (record_at t k) ≡ true
+  pub is_head_lem : is_head (record_at t k) ≡ true
+
+-- the first head from slot j on, or no rule begins there
+abbrev pub NextHead : Tables → ℕ → Option ℕ → Type 0
+NextHead t j (Some k) = IsFirstHead t j k
+NextHead t j None = rules_up t j ≡ []

@@ -1,70 +1,49 @@
 // The rules of a table, found by their heads.
 #![tactic(auto)]
 
-ghost use Rattle.std.specs.Prelude.{◌≤◌, ◌<◌, ◌≡◌, true, length};
-ghost use Rattle.tables.specs.Tables as tables;
+ghost use Rattle.std.specs.Prelude.{◌<◌, ◌≡◌, IfSome, length};
+ghost use Rattle.lent_slots.specs.Lent.{lent};
 ghost use Rattle.table_rules.specs.Rules as rules;
 
-use lent_slots::{record_at, slots};
-use records::between;
+use lent_slots::Table;
+pub use tables::is_head;
 
-// The slot from which on a rule has its items, or no rule.
-#[derive(Clone, Copy)]
-pub enum RuleItems {
-    From(usize),
-    Nothing,
-}
-
-// Whether a record is a head.
-pub fn is_head(w: [i32; 16]) -> bool
-    ensures { result ≡ tables.is_head w }
+// The slot of the first head from a slot on, if there is one. The slot after it has a number too.
+#[tactic(auto, using(crate::proofs::Heads::head_steps))]
+pub fn next_head(table: Table, from: usize) -> Option<usize>
+    ensures first { rules.NextHead (lent table.entry) from result }
+    ensures few { IfSome result (λ slot. slot < 18446744073709551615) }
 {
-    between(w, 0, 1, 1)
-}
-
-// The slot of the first head from a slot on, or the end of the table.
-pub fn next_head(words: &[i32], bytes: &[u8], from: usize) -> usize
-    ensures { rules.NextHead (words.now, bytes.now) from result }
-{
-    let n = slots(words, bytes);
-    let mut slot = from;
-    while slot < n {
-        if is_head(record_at(words, bytes, slot)) {
-            return slot;
+    for slot in from..table.slots() {
+        if is_head(table.record(slot)) {
+            return Some(slot);
         }
-        slot += 1;
     }
-    slot
+    None
 }
 
-// Where the rule numbered k has its items: after its head.
-pub fn rule_items(words: &[i32], bytes: &[u8], k: usize) -> RuleItems
-    ensures { rules.found (words.now, bytes.now) result ≡ rules.rule_at k (rules.rules_in (words.now, bytes.now)) }
+// The slot from which on the rule numbered k has its items, after its head; nothing, if there is no such rule.
+#[tactic(auto, using(crate::proofs::Heads::rule_steps))]
+pub fn rule_items(table: Table, k: usize) -> Option<usize>
+    ensures { rules.found (lent table.entry) result ≡ rules.rule_at k (rules.rules_in (lent table.entry)) }
 {
-    let n = slots(words, bytes);
-    let mut left = k;
-    let mut slot = next_head(words, bytes, 0);
-    while slot < n {
-        if left == 0 {
-            let from = slot + 1;
-            return RuleItems::From(from);
-        }
-        left -= 1;
-        slot = next_head(words, bytes, slot + 1);
+    let mut head = next_head(table, 0)?;
+    for _ in 0..k {
+        head = next_head(table, head + 1)?;
     }
-    RuleItems::Nothing
+    Some(head + 1)
 }
 
 // How many rules a table has.
-pub fn rule_count(words: &[i32], bytes: &[u8]) -> usize
-    ensures { result ≡ length (rules.rules_in (words.now, bytes.now)) }
+#[tactic(auto, using(crate::proofs::Heads::head_steps))]
+pub fn rule_count(table: Table) -> usize
+    ensures { result ≡ length (rules.rules_in (lent table.entry)) }
 {
-    let n = slots(words, bytes);
-    let mut count: usize = 0;
-    let mut slot = next_head(words, bytes, 0);
-    while slot < n {
-        count += 1;
-        slot = next_head(words, bytes, slot + 1);
+    let mut count = 0;
+    for slot in 0..table.slots() {
+        if is_head(table.record(slot)) {
+            count += 1;
+        }
     }
     count
 }

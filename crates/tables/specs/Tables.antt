@@ -1,10 +1,10 @@
 -- Tables of records, lent as words or as bytes: which of them fit (02, Ask 4).
-use Rattle.std.specs.Prelude.{ℕ, zero, suc, List, [], ◌∷◌, Bool, true, ◌&&◌, not, ◌≡◌, eqb, ℤ, length, if◌then◌else◌}
+use Rattle.std.specs.Prelude.{ℕ, zero, suc, List, [], ◌∷◌, Bool, true, false, ◌&&◌, not, ◌≡◌, eqb, ℤ, length, Option, if◌then◌else◌}
+use Rattle.std.specs.Option.{option_map_or}
 use Rattle.lent_slots.specs.Tables.{Tables}
 use Rattle.lent_slots.specs.Slots.{is_whole, records_of}
 use Rattle.records.specs.Fits.{is_kind, head_fits, item_fits}
 use Rattle.records.specs.Told.{number_at}
-use Rattle.tables.specs.declared.Step.{Step}
 
 -- ---- rules: a head and the items up to the next head
 
@@ -53,6 +53,6 @@ goes_on n [] = eqb n 0
 goes_on zero (w ∷ ws) = is_head w && (head_fits w && goes_on (items_of w) ws)
 goes_on (suc n) (w ∷ ws) = item_fits w && goes_on n ws
 
--- a step of the code: whether a record fits where n items are to come, and how many then are
-abbrev pub Steps : ℕ → List ℤ → Step → Type 0
-Steps n w r = (ws : List (List ℤ)) → goes_on n (w ∷ ws) ≡ (r.fits && goes_on r.left ws)
+-- a step of the code: how many items are to come after a record where n are, if the record fits
+abbrev pub Steps : ℕ → List ℤ → Option ℕ → Type 0
+Steps n w r = (ws : List (List ℤ)) → goes_on n (w ∷ ws) ≡ option_map_or (λ left. goes_on left ws) r false

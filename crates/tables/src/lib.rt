@@ -2,51 +2,48 @@
 #![tactic(auto)]
 
 ghost use Rattle.std.specs.Prelude.{◌≡◌};
+ghost use Rattle.lent_slots.specs.Lent.{lent};
 ghost use Rattle.tables.specs.Tables as tables;
 
-use lent_slots::{is_whole, record_at, slots};
-use records::{between, head_fits, item_fits, number_at};
+use lent_slots::Table;
+use records::{between, head_fits, item_fits, number};
 
-// Whether a record fits, and how many items of its rule are then to come.
-#[derive(Clone, Copy)]
-pub struct Step {
-    pub fits: bool,
-    pub left: usize,
+// Whether a record is a head.
+pub fn is_head(w: [i32; 16]) -> bool
+    ensures { result ≡ tables.is_head w }
+{
+    between(w[0], 1, 1)
 }
 
-// A record where so many items of a rule are to come.
-fn stepped(left: usize, w: [i32; 16]) -> Step
+// A record where so many items of a rule are to come: how many then are, if the record fits.
+#[tactic(auto, using(crate::proofs::Tables::steps))]
+fn stepped(left: usize, w: [i32; 16]) -> Option<usize>
     ensures { tables.Steps left w result }
 {
     if left > 0 {
-        return Step {
-            fits: item_fits(w),
-            left: left - 1,
-        };
-    }
-    Step {
-        fits: between(w, 0, 1, 1) & head_fits(w),
-        left: number_at(w, 5),
+        item_fits(w).then_some(left - 1)
+    } else if is_head(w) && head_fits(w) {
+        Some(number(w[5]))
+    } else {
+        None
     }
 }
 
 // Whether the records of a table fit.
-pub fn table_fits(words: &[i32], bytes: &[u8]) -> bool
-    ensures { result ≡ tables.table_fits (words.now, bytes.now) }
+#[tactic(auto, using(crate::proofs::Tables::table_steps))]
+pub fn table_fits(table: Table) -> bool
+    ensures { result ≡ tables.table_fits (lent table.entry) }
 {
-    let n = slots(words, bytes);
+    let n = table.slots();
     if n == 0 {
         return false;
     }
     let mut left = 0;
-    let mut slot = 0;
-    while slot < n {
-        let next = stepped(left, record_at(words, bytes, slot));
-        if !next.fits {
+    for slot in 0..n {
+        let Some(next) = stepped(left, table.record(slot)) else {
             return false;
-        }
-        left = next.left;
-        slot += 1;
+        };
+        left = next;
     }
-    is_whole(words, bytes) & (left == 0)
+    table.is_whole() && left == 0
 }

@@ -84,7 +84,7 @@ each_within [] (u ∷ us) s = absurd s
 each_within (x ∷ xs) [] s = absurd s
 each_within (x ∷ xs) (u ∷ us) s = rw (le-leb x most (omega (arith, s.0.1)), each_within xs us s.1)
 
-pub held_within : (xs : List ℕ) (vs : List Val) → Is (Array (UInt w32) 34) xs vs → all_within xs ≡ true
+pub held_within : {n : ℕ} (xs : List ℕ) (vs : List Val) → Is (Array (UInt w32) n) xs vs → all_within xs ≡ true
 held_within xs vs p = each_within xs p.0 p.1.1
 
 pub within_take : (k : ℕ) (l : List ℕ) → all_within l ≡ true → all_within (take k l) ≡ true

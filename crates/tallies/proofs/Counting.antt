@@ -1,53 +1,38 @@
 -- The counts of a table's records, record by record.
-use Rattle.std.specs.Prelude.{if◌then◌else◌}
-use Prim.Native.Nat.{ℕ, zero, suc, ◌+◌, ◌-◌, ◌/◌, ◌≤◌, ◌<◌}
+use Rattle.std.specs.Prelude.{Some, None}
+use Prim.Native.Nat.{ℕ, zero, suc, ◌+◌, ◌-◌, ◌≤◌, ◌<◌}
 use native.Mathlib.Nat.{div-add-mod'}
+use native.Mathlib.Nat.{sub-zero}
 use native.Mathlib.Omega.{arith}
+use mir.Facts.{to_z-of_z}
 use mathlib.Core.List.{List, [], ◌∷◌}
 use mathlib.Core.Bool.{Bool, true, false, true≢false}
 use mathlib.Core.Path.{◌≡◌, refl, sym, ap, ◌∙◌}
 use borrow.Author.Tests.{le-leb}
 use lib.IntN.{ℤ, pos}
-use lib.ListN.{length, get_or, set, replicate}
+use lib.ListN.{length, get_or, set, replicate, length-set}
+use lib.Seq.{get_or-set_same}
+use Rattle.std.proofs.lemmas.List.{get_or-set_other}
 use Rattle.lent_slots.specs.Tables.{Tables}
 use Rattle.records.specs.Ranges.{between, from, exactly}
-use Rattle.records.specs.Fits.{word_at, is_kind}
+use Rattle.records.specs.Fits.{word_at}
 use Rattle.records.specs.Told.{byte_at}
-use Rattle.lent_slots.specs.Slots.{is_words, slots, record_at, records_from}
+use Rattle.lent_slots.specs.Slots.{record_at, records_from}
 use Rattle.records.proofs.WordLaws.{from_is, exactly_is, number_at_lem}
 use Rattle.lent_slots.proofs.SlotLaws.{slot_next, slot_end}
-use Rattle.tallies.specs.Sums.{plus, AllUpTo}
-use Rattle.tallies.specs.Counts.{flagged_in, marks_of, one, record_counts, total}
-use Rattle.tallies.proofs.Adds.{plus_length, plus_group, plus_fresh, plus_set, one_plus}
+use Rattle.tallies.specs.Sums.{plus, most, all_within, sum_within}
+use Rattle.tallies.specs.Counts.{marks_of, record_counts, total, own}
+use Rattle.tallies.proofs.Adds.{plus_length, plus_fresh, plus_set, one_plus, within_not, within_set}
+use Rattle.tallies.proofs.Raises.{sum_some, sum_none, none_after, sum_after, within_sum}
+
+nothing_more : (c : List ℕ) → length c ≡ 10 → all_within c ≡ true → sum_within c (replicate 10 0) ≡ Some c
+nothing_more c ten w = let e : plus c (replicate 10 0) ≡ c = ap (λ j. plus c (replicate j 0)) (sym ten) ∙ plus_fresh c in sum_some c (replicate 10 0) (ap all_within e ∙ w) ∙ ap Some e
 
 -- ---- a record
 
 pub record_length : (w : List ℤ) → length (record_counts w) ≡ 10
 unfolding record_counts
 record_length w = refl
-
-few_flagged : (m : ℕ) → flagged_in m ≤ 5
-unfolding flagged_in
-few_flagged m = omega arith
-
-pub few_marks : (w : List ℤ) → marks_of w ≤ 10
-unfolding marks_of
-few_marks w = go (is_kind 6 w)
-  where
-    go : (t : Bool) → (if t then flagged_in (byte_at w 4) + flagged_in (byte_at w 5) else 0) ≤ 10
-    go true = omega (arith, few_flagged (byte_at w 4), few_flagged (byte_at w 5))
-    go false = omega arith
-
-few_ones : (k : ℕ) (w : List ℤ) → one k w ≤ 10
-few_ones k w = go (is_kind k w)
-  where
-    go : (t : Bool) → (if t then 1 else 0) ≤ 10
-    go true = omega arith
-    go false = omega arith
-
-pub record_small : (w : List ℤ) → AllUpTo 10 (record_counts w)
-unfolding record_counts
-record_small w = (omega arith, (omega arith, (few_ones 2 w, (few_ones 3 w, (few_ones 4 w, (few_ones 5 w, (few_ones 6 w, (few_ones 7 w, (few_ones 8 w, (few_marks w, tt))))))))))
 
 kind_in_lem : (k : ℕ) → 2 ≤ k → k ≤ 8 → from 2 8 (pos k) ≡ true
 unfolding between
@@ -92,8 +77,8 @@ item_counts w (suc (suc (suc (suc (suc (suc (suc (suc (suc k))))))))) e a b = ab
 -- ---- a record is counted
 
 module _ (c : List ℕ) (w : List ℤ) (ten : length c ≡ 10) where
-  pub counted_none : from 2 8 (word_at w 0) ≡ false → c ≡ plus c (record_counts w)
-  counted_none e = sym (ap (plus c) (no_item w e) ∙ ap (λ j. plus c (replicate j 0)) (sym ten) ∙ plus_fresh c)
+  pub counted_none : all_within c ≡ true → from 2 8 (word_at w 0) ≡ false → sum_within c (record_counts w) ≡ Some c
+  counted_none h e = ap (sum_within c) (no_item w e) ∙ nothing_more c ten h
 
   module _ (e : from 2 8 (word_at w 0) ≡ true) where
     kind_word_lem : word_at w 0 ≡ pos (byte_at w 0)
@@ -102,40 +87,46 @@ module _ (c : List ℕ) (w : List ℤ) (ten : length c ≡ 10) where
     pub kind_bounds : (2 ≤ byte_at w 0) × (byte_at w 0 ≤ 8)
     kind_bounds = let q : from 2 8 (pos (byte_at w 0)) ≡ true = ap (from 2 8) (sym kind_word_lem) ∙ e in (from_is 2 8 (pos (byte_at w 0)) q).1
 
-    pub counted_item : set (set c (byte_at w 0) (get_or c (byte_at w 0) 0 + 1)) 9 (get_or c 9 0 + marks_of w) ≡ plus c (record_counts w)
-    counted_item =
+    raised : List ℕ
+    raised = set (set c (byte_at w 0) (get_or c (byte_at w 0) 0 + 1)) 9 (get_or c 9 0 + marks_of w)
+
+    item_sum : plus c (record_counts w) ≡ raised
+    unfolding raised
+    item_sum =
         let k = byte_at w 0 in
         let ones = set {A = ℕ} (replicate 10 0) k 1 in
-        sym (
         ap (plus c) (item_counts w k kind_word_lem kind_bounds.0 kind_bounds.1)
         ∙ plus_set c ones 9 (marks_of w)
         ∙ ap (λ (l : List ℕ). set l 9 (get_or c 9 0 + marks_of w)) (one_plus c 10 k 1 ten)
-        )
 
--- ---- bounds
+    past : (i : ℕ) → i < 10 → most < get_or raised i 0 → sum_within c (record_counts w) ≡ None
+    unfolding raised
+    past i h g = sum_none c (record_counts w) (ap all_within item_sum ∙ within_not raised i (simp length-set (omega arith)) g)
 
-pub up_at : (b : ℕ) (xs : List ℕ) (i : ℕ) → AllUpTo b xs → i < length xs → get_or xs i 0 ≤ b
-up_at b [] i u h = absurd (omega arith)
-up_at b (x ∷ xs) zero u h = u.0
-up_at b (x ∷ xs) (suc i) u h = up_at b xs i u.1 (omega arith)
+    pub items_past : most < get_or c (byte_at w 0) 0 + 1 → sum_within c (record_counts w) ≡ None
+    unfolding raised
+    items_past h =
+        let k = byte_at w 0 in
+        let b = kind_bounds in
+        let v = get_or c k 0 + 1 in
+        let kept : get_or raised k 0 ≡ get_or (set c k v) k 0 = get_or-set_other (set c k v) 9 k (get_or c 9 0 + marks_of w) 0 (λ e. omega arith) in
+        past k (omega arith) (rw (kept, get_or-set_same c k v 0 (omega arith)) h)
 
-pub up_more : (b d : ℕ) (xs : List ℕ) → b ≤ d → AllUpTo b xs → AllUpTo d xs
-up_more b d [] h u = tt
-up_more b d (x ∷ xs) h u = (omega (arith, u.0), up_more b d xs h u.1)
+    pub marks_past : most < get_or c 9 0 + marks_of w → sum_within c (record_counts w) ≡ None
+    unfolding raised
+    marks_past h =
+        let k = byte_at w 0 in
+        past 9 (omega arith) (rw (get_or-set_same (set c k (get_or c k 0 + 1)) 9 (get_or c 9 0 + marks_of w) 0 (simp length-set (omega arith))) h)
 
-pub up_plus : (b d : ℕ) (xs ys : List ℕ) → AllUpTo b xs → AllUpTo d ys → AllUpTo (b + d) (plus xs ys)
-unfolding plus
-up_plus b d [] ys u v = tt
-up_plus b d (x ∷ xs) [] u v = tt
-up_plus b d (x ∷ xs) (y ∷ ys) u v = (omega (arith, u.0, v.0), up_plus b d xs ys u.1 v.1)
+    pub counted_item : all_within c ≡ true → get_or c (byte_at w 0) 0 + 1 ≤ most → get_or c 9 0 + marks_of w ≤ most →
+        sum_within c (record_counts w) ≡ Some (set (set c (byte_at w 0) (get_or c (byte_at w 0) 0 + 1)) 9 (get_or c 9 0 + marks_of w))
+    unfolding raised
+    counted_item h i m =
+        let k = byte_at w 0 in
+        let v = get_or c k 0 + 1 in
+        sum_some c (record_counts w) (ap all_within item_sum ∙ within_set (set c k v) 9 (get_or c 9 0 + marks_of w) (within_set c k v h i) m) ∙ ap Some item_sum
 
-pub few_slots : (t : Tables) → length t.0 < 18446744073709551616 → length t.1 < 18446744073709551616 → slots t ≤ 1152921504606846976
-unfolding slots
-few_slots t a b = go (is_words t)
-  where
-    go : (x : Bool) → (if x then length t.0 / 16 else length t.1 / 64) ≤ 1152921504606846976
-    go true = omega (arith, div-add-mod' (length t.0) 16)
-    go false = omega (arith, div-add-mod' (length t.1) 64)
+pub ruleset record_steps = (counted_none, kind_bounds, items_past, marks_past, counted_item, to_z-of_z)
 
 -- ---- records one after the other
 
@@ -144,11 +135,29 @@ unfolding total
 total_length [] = refl
 total_length (w ∷ ws) = plus_length (record_counts w) (total ws) (record_length w ∙ sym (total_length ws)) ∙ record_length w
 
-module _ (t : Tables) (n k : ℕ) (c : List ℕ) where
-  pub total_next : k < n → plus (plus c (record_counts (record_at t k))) (total (records_from t (n - (k + 1)) (k + 1))) ≡ plus c (total (records_from t (n - k) k))
-  unfolding total
-  total_next h = plus_group c (record_counts (record_at t k)) (total (records_from t (n - (k + 1)) (k + 1))) ∙ rw (slot_next t n k h)
+module _ (t : Tables) (n k : ℕ) (c : List ℕ) (ten : length c ≡ 10) where
+  abbrev rest : List ℕ
+  rest = total (records_from t (n - (k + 1)) (k + 1))
 
-  pub total_end : length c ≡ 10 → n ≤ k → plus c (total (records_from t (n - k) k)) ≡ c
+  same_length : length (plus c (record_counts (record_at t k))) ≡ length rest
+  same_length = plus_length c (record_counts (record_at t k)) (ten ∙ sym (record_length (record_at t k))) ∙ ten ∙ sym (total_length (records_from t (n - (k + 1)) (k + 1)))
+
+  next : k < n → total (records_from t (n - k) k) ≡ plus (record_counts (record_at t k)) rest
   unfolding total
-  total_end l h = rw (slot_end t n k h) (ap (λ j. plus c (replicate j 0)) (sym l) ∙ plus_fresh c)
+  next h = rw (slot_next t n k h)
+
+  pub total_none : k < n → sum_within c (record_counts (record_at t k)) ≡ None → sum_within c (total (records_from t (n - k) k)) ≡ None
+  total_none h e = ap (sum_within c) (next h) ∙ none_after c (record_counts (record_at t k)) rest same_length e
+
+  pub total_next : {s : List ℕ} → k < n → sum_within c (record_counts (record_at t k)) ≡ Some s → sum_within c (total (records_from t (n - k) k)) ≡ sum_within s (total (records_from t (n - (k + 1)) (k + 1)))
+  total_next h e = ap (sum_within c) (next h) ∙ sum_after c (record_counts (record_at t k)) rest same_length e
+
+  pub total_end : all_within c ≡ true → n ≤ k → sum_within c (total (records_from t (n - k) k)) ≡ Some c
+  unfolding total
+  total_end w h = rw (slot_end t n k h) (nothing_more c ten w)
+
+pub own_within : (n : ℕ) → n ≤ most → all_within (own n) ≡ true
+unfolding all_within
+own_within n h = rw (le-leb n most h)
+
+pub ruleset total_steps = (total_none, total_next, total_end, own_within, within_sum, sub-zero)

@@ -1,5 +1,5 @@
 -- Joining: what it answers; order and grouping do not matter; the fresh tally changes nothing; one refused join refuses the whole.
-use Rattle.std.specs.Prelude.{if◌then◌else◌}
+use Rattle.std.specs.Prelude.{if◌then◌else◌, Some, None, Result, Ok, Err}
 use Prim.Native.Nat.{ℕ}
 use mathlib.Core.List.{List, [], ◌∷◌, ◌++◌}
 use mathlib.Core.Option.{Option, none, some}
@@ -8,13 +8,18 @@ use mathlib.Core.Path.{◌≡◌, refl, sym, ap, ◌∙◌}
 use borrow.Author.Tests.{eq-eqb, ne_eqb}
 use lib.Dec.{eqb}
 use lib.ListN.{length, replicate}
-use Rattle.tallies.specs.Sums.{plus, all_within}
+use Rattle.tallies.specs.Sums.{plus, all_within, sum_within}
 use Rattle.tallies.specs.Counts.{counts_of}
-use Rattle.tallies.specs.Stored.{counts_in, bytes_of}
+use Rattle.tallies.specs.Refusals.{number}
+use Rattle.tallies.specs.Answers.{numbers}
+use Rattle.tallies.specs.Stored.{stored_in, tally_in}
+use Rattle.tallies.specs.declared.Tally.{Tally}
+use Rattle.tallies.specs.declared.refusals.TallyRefusal.{TallyRefusal}
 use Rattle.tallies.specs.Figures.{Read, figures}
 use Rattle.tallies.specs.Joins.{joined_to, joined_bytes, Tree, tally, join, tallies, unrefused, both, joined_all, Reordered, same, swapped, after, through, IsTally, AreTallies}
 use Rattle.tallies.proofs.Adds.{plus_length, plus_group, plus_swap, plus_fresh}
-use Rattle.tallies.proofs.Raises.{refused_part}
+use Rattle.tallies.proofs.Raises.{none_past, some_is, refused_part}
+use Rattle.tallies.proofs.Judged.{held_counts, held_long, refused_length, refused_number, same_stored}
 use Rattle.tallies.proofs.Lists.{figures_next, figures_none, figures_length}
 
 module _ (xs ys : List ℕ) where
@@ -26,27 +31,35 @@ module _ (xs ys : List ℕ) where
   unfolding joined_to
   joined_0 e = rw e
 
+  -- the same of what the code adds up
+  pub joined_over : sum_within xs ys ≡ None → joined_to xs ys ≡ (15, xs)
+  joined_over e = joined_15 (none_past xs ys e)
+
+  pub joined_sum : {s : List ℕ} → sum_within xs ys ≡ Some s → joined_to xs ys ≡ (0, s)
+  joined_sum e = let q = some_is xs ys e in joined_0 q.1 ∙ ap (λ (c : List ℕ). (0, c)) q.0
+
+pub ruleset join_steps = (joined_over, joined_sum)
+
 and_false : (t : Bool) → (t && false) ≡ false
 and_false true = refl
 and_false false = refl
 
+-- ---- tallies in bytes
+
 module _ (b o : List ℕ) where
-  pub first_other : (length b ≡ 136 → ⊥) → joined_bytes b o ≡ (16, b)
+  pub first_refused : (e : TallyRefusal) → tally_in b ≡ Err e → stored_in b (number e, []) ≡ joined_bytes b o
   unfolding joined_bytes
-  first_other h = rw (ne_eqb (length b) 136 h)
+  first_refused e q = rw (refused_number b q, ne_eqb (length b) 136 (refused_length b q))
 
-  pub second_other : (length o ≡ 136 → ⊥) → joined_bytes b o ≡ (16, b)
+  pub second_refused : (e : TallyRefusal) → tally_in o ≡ Err e → stored_in b (number e, []) ≡ joined_bytes b o
   unfolding joined_bytes
-  second_other h = rw (ne_eqb (length o) 136 h, and_false (eqb (length b) 136))
+  second_refused e q = rw (refused_number o q, ne_eqb (length o) 136 (refused_length o q), and_false (eqb (length b) 136))
 
-  module _ (l : length b ≡ 136) (m : length o ≡ 136) (r : ℕ × List ℕ) (e : r ≡ joined_to (counts_in b) (counts_in o)) where
-    pub stored_refused : (r.0 ≡ 0 → ⊥) → joined_bytes b o ≡ (r.0, b)
-    unfolding joined_bytes
-    stored_refused h = rw (eq-eqb (length b) 136 l, eq-eqb (length o) 136 m, sym e, ne_eqb r.0 0 h)
+  pub both_joined : (x y : Tally) (r : Result Tally TallyRefusal) → tally_in b ≡ Ok x → tally_in o ≡ Ok y → numbers x.counts r ≡ joined_to x.counts y.counts → stored_in b (numbers [] r) ≡ joined_bytes b o
+  unfolding joined_bytes
+  both_joined x y r p q e = rw (eq-eqb (length b) 136 (held_long b p), eq-eqb (length o) 136 (held_long o q), same_stored b x.counts r, e, held_counts b p, held_counts o q)
 
-    pub stored_joined : r.0 ≡ 0 → joined_bytes b o ≡ (0, bytes_of r.1)
-    unfolding joined_bytes
-    stored_joined h = rw (eq-eqb (length b) 136 l, eq-eqb (length o) 136 m, sym e, h)
+pub ruleset byte_steps = (held_long, first_refused, second_refused, both_joined)
 
 -- ---- the fresh tally
 

@@ -9,15 +9,14 @@ use mathlib.Core.Path.{◌≡◌, refl, sym, ap, ◌∙◌}
 use borrow.Author.Tests.{ne_eqb, eqb-true, eqb-false}
 use lib.Dec.{eqb}
 use lib.IntN.{ℤ}
-use lib.ListN.{length, set, replicate, length-set, length-append}
+use lib.ListN.{length, set, replicate, length-set}
 use Rattle.lent_slots.specs.Slots.{records_of}
 use Rattle.tallies.specs.Sums.{plus, all_within}
 use Rattle.tallies.specs.Counts.{one, marks_of, record_counts, total, own, counts_of}
 use Rattle.tallies.specs.Answers.{answer_fits, taken_in}
 use Rattle.tallies.specs.Figures.{Read, sum_of, answers_with, read, warnings, items, marks, up_from, figures, run, fitting, taken, refused, AllFit}
 use Rattle.tallies.proofs.Adds.{plus_length, plus_group, plus_fresh, plus_join, within_part}
-use Rattle.tallies.proofs.Counting.{total_length}
-use Rattle.tallies.proofs.Judged.{fitting_up, taken_16, taken_15, taken_0}
+use Rattle.tallies.proofs.Judged.{fitting_up, counts_long, taken_16, taken_15, taken_0}
 
 -- ---- answers by number
 
@@ -120,13 +119,7 @@ unfolding figures up_from
 figures_length l = refl
 
 pub counts_length : (x : Read) → length (counts_of x.0 x.1) ≡ 34
-unfolding counts_of
-counts_length x =
-    let w = total (records_of x.1) in
-    let ten : length (plus (own x.0.warnings) w) ≡ 10 = plus_length (own x.0.warnings) w (sym (total_length (records_of x.1))) in
-    length-append (set (replicate 24 0) x.0.number 1) (plus (own x.0.warnings) w)
-    ∙ ap (λ n. n + length (plus (own x.0.warnings) w)) (length-set {A = ℕ} (replicate 24 0) x.0.number 1)
-    ∙ ap (λ n. 24 + n) ten
+counts_length x = counts_long x.0 x.1
 
 -- ---- a run
 

@@ -8,7 +8,7 @@ use mathlib.Core.Path.{◌≡◌, refl, sym, ap, ◌∙◌}
 use borrow.Author.Tests.{leb-true}
 use lib.Dec.{leb}
 use lib.ListN.{length, get_or, take, drop, set, length-append, drop_of_length-le}
-use lib.Seq.{take-suc-set, drop-cons, sets, sets-eq}
+use lib.Seq.{take_all, take-suc-set, drop-cons, sets, sets-eq}
 use Rattle.lent_slots.specs.Bytes.{little_endian}
 use Rattle.lent_slots.specs.Slots.{number_from}
 use Rattle.lent_slots.proofs.OfBytes.{number_of}
@@ -30,6 +30,13 @@ pub number_more : (c b : List ℕ) (i : ℕ) {v : ℕ} → i < length c → v �
 number_more c b i {v} h e q =
     let z : i * 4 ≡ 0 + i * 4 = omega arith in
     rw (add-one i, take-suc-set c i v h, q, e) (ap (λ n. numbers_from i b 0 ++ (number_from b n ∷ [])) z ∙ sym (numbers_more i b 0))
+
+pub none_read : (b : List ℕ) → numbers_from 0 b 0 ≡ []
+unfolding numbers_from
+none_read b = refl
+
+pub all_read : (c b : List ℕ) (n i : ℕ) → length c ≡ n → i ≡ n → take i c ≡ numbers_from i b 0 → c ≡ numbers_from n b 0
+all_read c b n i l e q = sym (take_all n c (omega arith)) ∙ rw e at q
 
 -- ---- counts are stored
 
@@ -68,3 +75,7 @@ numbers_of_bytes (x ∷ c) pre post f =
     let r : numbers_from (length c) ((pre ++ little_endian x) ++ (bytes_of c ++ post)) (length (pre ++ little_endian x)) ≡ c = numbers_of_bytes c (pre ++ little_endian x) post b.1 in
     let s : numbers_from (length c) (pre ++ (little_endian x ++ (bytes_of c ++ post))) (length pre + 4) ≡ c = rw (append_assoc pre (little_endian x) (bytes_of c ++ post), four) at r in
     rw (append_assoc (little_endian x) (bytes_of c) post, n, s)
+
+pub ruleset read_steps = (number_more, none_read, all_read)
+
+pub ruleset store_steps = (count_more, count_end)

@@ -1,13 +1,15 @@
 -- Which answers and records fit, and what a tally that takes them in answers (02, Ask 4).
-use Rattle.std.specs.Prelude.{ℕ, List, Bool, ◌&&◌, ◌||◌, eqb, leb, length, if◌then◌else◌}
+use Rattle.std.specs.Prelude.{ℕ, List, Bool, ◌&&◌, ◌||◌, eqb, leb, length, Result, Ok, Err, if◌then◌else◌}
 use Rattle.names.specs.Tests.{within}
 use Rattle.lent_slots.specs.Tables.{Tables}
 use Rattle.lent_slots.specs.Slots.{slots}
 use Rattle.tables.specs.Tables.{table_fits}
 use Rattle.tallies.specs.Sums.{plus, all_within}
 use Rattle.tallies.specs.Counts.{counts_of}
+use Rattle.tallies.specs.Refusals.{number}
 use Rattle.tallies.specs.declared.Answer.{Answer}
-use Rattle.tallies.specs.declared.Taken.{Taken}
+use Rattle.tallies.specs.declared.Tally.{Tally}
+use Rattle.tallies.specs.declared.refusals.TallyRefusal.{TallyRefusal}
 
 -- 0, 1, 3 to 13, 19, 22 or 23
 unfoldable pub number_fits : ℕ → Bool
@@ -31,6 +33,7 @@ taken_in xs a t =
     (if all_within (plus xs (counts_of a t)) then (0, plus xs (counts_of a t)) else (15, xs))
     else (16, xs)
 
--- what the code's answer says
-abbrev pub numbers : Taken → ℕ × List ℕ
-numbers r = (r.number, (r.tally).counts)
+-- what the code's answer says: of a refusal, the counts as they were, xs
+abbrev pub numbers : List ℕ → Result Tally TallyRefusal → ℕ × List ℕ
+numbers xs (Ok t) = (0, t.counts)
+numbers xs (Err r) = (number r, xs)

@@ -1,5 +1,6 @@
 pub mod Sums
 pub mod Counts
+pub mod Refusals
 pub mod Answers
 pub mod Figures
 pub mod Stored

@@ -31,7 +31,7 @@ use Rattle.rules.proofs.Places.{more_inside}
 use Rattle.rules.proofs.Chained.{piece_more, piece_end, piece_none, piece_tail, piece_refusal}
 use Rattle.rules.proofs.Small.{Small, SmallEnd, end_small, wins_small}
 use Rattle.house.specs.Breaks.{begun, with_item, with_items}
-use Rattle.house.specs.declared.Break.{Break}
+use Rattle.house.specs.Spans.{Break}
 use Rattle.house.specs.declared.Judgement.{Judgement}
 use Rattle.house.proofs.Laws.{rule_first}
 use Rattle.text_rules.specs.Texts.{rule_records}

@@ -5,7 +5,7 @@ use Rattle.names.specs.declared.Manner.{Manner}
 use Rattle.lent_slots.specs.Tables.{Tables, all_kept}
 use Rattle.rules.specs.Rules.{Rule, rule}
 use Rattle.house.specs.Breaks.{rule_break, judged_by}
-use Rattle.house.specs.declared.Break.{Break}
+use Rattle.house.specs.Spans.{Break}
 use Rattle.text_rules.specs.Texts.{judged_rules, rule_records, records, warnings}
 
 -- what is known of a rule: how many items it has, how many warnings, and its first break

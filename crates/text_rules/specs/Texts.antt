@@ -7,46 +7,45 @@ use Rattle.names.specs.Texts.{blanks}
 use Rattle.items.specs.Musts.{must}
 use Rattle.rules.specs.Separators.{next}
 use Rattle.rules.specs.Rules.{Rule, rule}
-use Rattle.rules.specs.declared.Next.{Next}
-use Rattle.rules.specs.declared.Next.TheVariants.{Another, Finished}
+use Rattle.std.specs.Prelude.{Option, Some, None}
 use Rattle.house.specs.Breaks.{judged_by, rules_break}
-use Rattle.house.specs.declared.Break.{Break}
-use Rattle.house.specs.declared.Break.TheVariants.{Nowhere, At}
+use Rattle.house.specs.Spans.{Break}
+use Rattle.names.specs.Refusals.{number}
 use Rattle.records.specs.Words.{head_words, item_record}
 
 -- the blanks after a rule, and what parts it from the next
-abbrev pub after_rule : {A : Type 0} → A → Reader (A × Next)
+abbrev pub after_rule : {A : Type 0} → A → Reader (A × Option ℕ)
 after_rule r = do
   blanks
   n ← must next
   pure (r, n)
 
 -- a rule, and what parts it from the next
-unfoldable pub parted : Manner → ℕ → Reader (Rule × Next)
+unfoldable pub parted : Manner → ℕ → Reader (Rule × Option ℕ)
 parted m separator = do
   r ← rule m separator
   after_rule r
 
 -- a rule of a text: "rule" is the place where the blanks before it end
-unfoldable pub more_rules : Manner → Next → Reader (Rule × Next)
-more_rules m (Another separator) = do
+unfoldable pub more_rules : Manner → Option ℕ → Reader (Rule × Option ℕ)
+more_rules m (Some separator) = do
   blanks
   parted m separator
-more_rules m Finished = nothing
+more_rules m None = nothing
 
 -- there are no more rules where the text has ended
-unfoldable pub no_more : Next → Reader (Unit {0})
-no_more (Another separator) = nothing
-no_more Finished = pure tt
+unfoldable pub no_more : Option ℕ → Reader (Unit {0})
+no_more (Some separator) = nothing
+no_more None = pure tt
 
 -- the rules of a text: the first has the separator 0
 unfoldable pub rules : Manner → Reader (List Rule × Unit {0})
-rules m = chain (more_rules m) no_more (Another 0)
+rules m = chain (more_rules m) no_more (Some 0)
 
 -- what the first break of the house profile comes to: it refuses, and where there is none the value stays
 abbrev pub unbroken : {A : Type 0} → A → Break → Reader A
-unbroken a Nowhere = pure a
-unbroken a (At k p) = refuse k p
+unbroken a None = pure a
+unbroken a (Some r) = refuse (number r.reason) r.place
 
 -- the rules of a text, a house sheet's judged when all are read
 unfoldable pub judged_rules : Manner → Reader (List Rule × Unit {0})

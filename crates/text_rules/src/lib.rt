@@ -4,28 +4,26 @@
 mod rule;
 mod texts;
 
-use house::Break;
-use names::Cursor;
-use rules::Next;
+use names::{Cursor, Refusal};
 pub use texts::fill_rules;
 
-// What reading a rule finds: how many items it has, how many warnings, its first break of the house profile and the place after it; or a refusal with its number and place.
+// What is known of a rule: how many items it has, how many warnings, and its first break of the house profile, if it has one.
 #[derive(Clone, Copy)]
-pub enum RuleRead {
-    Got(usize, usize, Break, Cursor),
-    Refused(u8, usize),
+pub struct Known {
+    pub items: usize,
+    pub warnings: usize,
+    pub first: Option<Refusal>,
 }
 
-// What parts a rule from the next: what follows, and the place after it; or a refusal with its number and place.
+// How many records the rules of a text have, and how many warnings.
 #[derive(Clone, Copy)]
-pub enum Parted {
-    Got(Next, Cursor),
-    Refused(u8, usize),
+pub struct Counted {
+    pub records: usize,
+    pub warnings: usize,
 }
 
-// What reading the rules of a text finds: how many records they have, how many warnings, and the place after them; or a refusal with its number and place.
-#[derive(Clone, Copy)]
-pub enum Counted {
-    Got(usize, usize, Cursor),
-    Refused(u8, usize),
-}
+// What reading a rule finds: what is known of it and the place after it, or a refusal.
+pub type RuleRead = Result<(Known, Cursor), Refusal>;
+
+// What reading the rules of a text finds: how many there are and the place after them, or a refusal.
+pub type RulesRead = Result<(Counted, Cursor), Refusal>;

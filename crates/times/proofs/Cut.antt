@@ -4,15 +4,16 @@ use mathlib.Core.List.{List}
 use mathlib.Core.Bool.{not}
 use mathlib.Core.Path.{refl}
 use native.Mathlib.Omega.{arith}
+use Rattle.std.specs.Prelude.{Err}
 use Rattle.names.specs.Names.{event}
 use Rattle.names.specs.declared.Manner.{Manner}
 use Rattle.names.specs.declared.Manner.TheVariants.{First, Second, House}
+use Rattle.names.specs.declared.refusals.Reason.TheVariants.{Range}
 use Rattle.names.proofs.Local.{loose, free, in_any, pure_local, bind_local, then_local, or_local}
 use Rattle.names.proofs.Laws.{either}
 use Rattle.names.proofs.Cut.{byte_local, hour_local, minute_local, minutes_local}
 use Rattle.names.proofs.Odd.{named_local}
 use Rattle.records.proofs.Cut.{Alike, AlikeIn, RefusesIn, item_alike}
-use Rattle.records.specs.declared.Meant.TheVariants.{Refused}
 use Rattle.times.specs.Times.{clock, Event, Spelt, with_offset, event_with_offset, time}
 use Rattle.times.specs.Spans.{repeated, tail, until_time, span_after, span_shape, time_item}
 use Rattle.times.specs.Meanings.{good_span, span_of, span_meaning}
@@ -64,9 +65,9 @@ module _ {u : List ℕ} where
 -- a span's refusals have numbers
 pub meaning_refuses : (m : Manner) (r : RawSpan) → RefusesIn m (span_meaning m r)
 unfolding span_meaning
-meaning_refuses m r = either (RefusesIn m) (not (good_span r)) (Refused 4) (span_of m r) (four m) (go m r)
+meaning_refuses m r = either (RefusesIn m) (not (good_span r)) (Err Range) (span_of m r) (four m) (go m r)
   where
-    four : (m : Manner) → RefusesIn m (Refused 4)
+    four : (m : Manner) → RefusesIn m (Err Range)
     four First = omega arith
     four Second = omega arith
     four House = omega arith

@@ -4,6 +4,7 @@ use Prim.Native.String.{String}
 use mathlib.Core.Bool.{Bool, true, false}
 use mathlib.Core.List.{List, [], ◌∷◌, map}
 use mathlib.Core.Path.{◌≡◌, refl}
+use Rattle.std.specs.Prelude.{Option, Some, None}
 use Rattle.names.specs.Tests.{within}
 use Rattle.names.specs.Read.{Read, got, none, refused, one, ahead}
 use Rattle.names.specs.Chain.{chain_in, chain, many, skip}
@@ -17,33 +18,31 @@ use Rattle.records.specs.declared.Item.{Item}
 use Rattle.records.specs.declared.Item.TheVariants.{Times}
 use Rattle.records.specs.declared.Time.{Time}
 use Rattle.records.specs.declared.Time.TheVariants.{Fixed, Dawn, Sunrise, Sunset, Dusk}
-use Rattle.records.specs.declared.Repeat.{Repeat}
-use Rattle.records.specs.declared.Repeat.TheVariants.{Never, Every}
 use Rattle.times.specs.Times.{clock, event_of, with_offset, event_with_offset, time}
 use Rattle.times.specs.Spans.{repeated, tail, until_time, span_after, span_shape, time_item}
 use Rattle.times.specs.Meanings.{span_meaning}
 
 -- a span of times
-span : Time → Time → Repeat → Bool → Item
+span : Time → Time → Option ℕ → Bool → Item
 span start end repeats open_end = Times (record { start = start; end = end; repeats = repeats; open_end = open_end; point = false; odd_start = false; odd_end = false })
 
 -- a time alone
 point : Time → Item
-point t = Times (record { start = t; end = t; repeats = Never; open_end = false; point = true; odd_start = false; odd_end = false })
+point t = Times (record { start = t; end = t; repeats = None; open_end = false; point = true; odd_start = false; odd_end = false })
 
 -- a text, a place in it, and what is read there: 4 before 8, and spans are not reordered
 spans : List (String × (ℕ × Read Item))
 spans =
-    ("10:00+", (0, got (span (Fixed 600) (Fixed 1440) Never true) 6))
-    ∷ ("sunrise+", (0, got (span (Sunrise (signed false 0)) (Fixed 1440) Never true) 8))
-    ∷ ("10:00-12:00+", (0, got (span (Fixed 600) (Fixed 720) Never true) 12))
-    ∷ ("10:00-48:00", (0, got (span (Fixed 600) (Fixed 2880) Never false) 11))
-    ∷ ("10:00-0:00", (0, got (span (Fixed 600) (Fixed 0) Never false) 10))
-    ∷ ("24:00-26:00", (0, got (span (Fixed 1440) (Fixed 1560) Never false) 11))
-    ∷ ("(dawn-1:30)-(dusk+0:15)", (0, got (span (Dawn (signed true 90)) (Dusk (signed false 15)) Never false) 23))
-    ∷ ("10:00-12:00/23:59", (0, got (span (Fixed 600) (Fixed 720) (Every 1439) false) 17))
-    ∷ ("10:00-12:00/00", (0, got (span (Fixed 600) (Fixed 720) (Every 0) false) 14))
-    ∷ ("10:00-12:00/1:3", (0, got (span (Fixed 600) (Fixed 720) Never false) 11))
+    ("10:00+", (0, got (span (Fixed 600) (Fixed 1440) None true) 6))
+    ∷ ("sunrise+", (0, got (span (Sunrise (signed false 0)) (Fixed 1440) None true) 8))
+    ∷ ("10:00-12:00+", (0, got (span (Fixed 600) (Fixed 720) None true) 12))
+    ∷ ("10:00-48:00", (0, got (span (Fixed 600) (Fixed 2880) None false) 11))
+    ∷ ("10:00-0:00", (0, got (span (Fixed 600) (Fixed 0) None false) 10))
+    ∷ ("24:00-26:00", (0, got (span (Fixed 1440) (Fixed 1560) None false) 11))
+    ∷ ("(dawn-1:30)-(dusk+0:15)", (0, got (span (Dawn (signed true 90)) (Dusk (signed false 15)) None false) 23))
+    ∷ ("10:00-12:00/23:59", (0, got (span (Fixed 600) (Fixed 720) (Some 1439) false) 17))
+    ∷ ("10:00-12:00/00", (0, got (span (Fixed 600) (Fixed 720) (Some 0) false) 14))
+    ∷ ("10:00-12:00/1:3", (0, got (span (Fixed 600) (Fixed 720) None false) 11))
     ∷ ("10:00-12:00/90", (0, refused 4 0))
     ∷ ("10:00-12:00/24:00", (0, refused 4 0))
     ∷ ("10:00-48:01", (0, refused 4 0))
@@ -67,7 +66,7 @@ points =
     ("10:00", got (point (Fixed 600)) 5)
     ∷ ("24:00", got (point (Fixed 1440)) 5)
     ∷ ("(sunset-0:30)", got (point (Sunset (signed true 30))) 13)
-    ∷ ("10:00-10:00", got (span (Fixed 600) (Fixed 600) Never false) 11)
+    ∷ ("10:00-10:00", got (span (Fixed 600) (Fixed 600) None false) 11)
     ∷ ("10:00/30", got (point (Fixed 600)) 5)
     ∷ ("10:60", refused 4 0)
     ∷ []

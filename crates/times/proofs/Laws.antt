@@ -1,22 +1,16 @@
 -- Laws of the times that code's own steps go by.
-use Prim.Native.Nat.{ℕ, ◌^◌, ◌<◌}
+use Prim.Native.Nat.{ℕ}
 use mathlib.Core.Bool.{Bool, true, false, and-false}
 use mathlib.Core.List.{List}
 use mathlib.Core.Path.{◌≡◌, refl, sym, ◌∙◌}
 use native.Mathlib.Omega.{arith}
 use borrow.Author.Tests.{eqb-true, ne_eqb}
 use lib.Dec.{eqb}
-use lib.IntN.{ℤ}
 use lib.ListN.{get_or}
-use lib.Signed.{mag}
-use mir.Syntax.{w16}
-use mir.Val.{of_z, to_z}
 use Rattle.names.specs.Read.{Read, got, none, refused, follow, nothing, pure, one}
 use Rattle.names.specs.Texts.{byte}
 use Rattle.names.proofs.Laws.{or_none}
-use Rattle.records.proofs.Laws.{half_fits}
 use Rattle.times.specs.Times.{Event, clock, sun, sun_of, with_offset}
-use Rattle.times.specs.Meanings.{near}
 
 -- where one sign stands, another does not
 sign_alone : (b d : ℕ) (s : List ℕ) (i : ℕ) {j : ℕ} → (b ≡ d → ⊥) → byte b s i ≡ got tt j → byte d s i ≡ none
@@ -37,12 +31,3 @@ sun_is e negative s j (refused k p) = refl
 pub with_offset_plus : (e : Event) (s : List ℕ) (i : ℕ) {j : ℕ} → byte 43 s i ≡ got tt j → with_offset e s i ≡ sun_of e false (clock s j)
 unfolding with_offset
 with_offset_plus e s i {j} p = rw (p, sun_is e false s j (clock s j)) (or_none s i _ _ (rw (sign_alone 43 45 s i (λ q. omega arith) p)))
-
--- after a minus
-pub with_offset_minus : (e : Event) (s : List ℕ) (i : ℕ) {j : ℕ} → byte 43 s i ≡ none → byte 45 s i ≡ got tt j → with_offset e s i ≡ sun_of e true (clock s j)
-unfolding with_offset
-with_offset_minus e s i {j} p q = rw (p, q) (sun_is e true s j (clock s j))
-
--- an event's minutes in range, from the machine's number
-pub event_near : (m : ℤ) {x : ℕ} {b : Bool} → mag m < 2 ^ 15 → x ≡ of_z w16 m → b ≡ near (to_z w16 x) → b ≡ near m
-event_near m h e n = rw (e, half_fits m h) at n

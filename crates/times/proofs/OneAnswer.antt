@@ -1,21 +1,18 @@
 -- No second answer meets a promise: an answer is known by what it says.
-use mathlib.Core.Path.{◌≡◌, refl, ap}
+use Prim.Native.Nat.{ℕ}
+use mathlib.Core.Path.{◌≡◌, ap}
+use Rattle.std.specs.Prelude.{Option}
+use Rattle.names.proofs.OneAnswer.{seen_one_answer}
+use Rattle.names.specs.declared.Cursor.{Cursor}
 use Rattle.times.specs.Times.{Spelt}
-use Rattle.times.specs.Seen.{seen_clock, seen_time}
-use Rattle.times.specs.declared.ClockRead.{ClockRead}
-use Rattle.times.specs.declared.ClockRead.TheVariants as clock
-use Rattle.times.specs.declared.TimeRead.{TimeRead}
-use Rattle.times.specs.declared.TimeRead.TheVariants as time
+use Rattle.times.specs.Seen.{seen_clock, spelt, seen_time}
+use Rattle.times.specs.declared.SpeltTime.{SpeltTime}
 
-pub clock_one_answer : (x y : ClockRead) → seen_clock x ≡ seen_clock y → x ≡ y
-clock_one_answer (clock.Got t c) (clock.Got u d) e = let h : c.at ≡ d.at = cc in let k : t ≡ u = cc in rw (k, h)
-clock_one_answer (clock.Got t c) clock.Missing e = cc
-clock_one_answer clock.Missing (clock.Got u d) e = cc
-clock_one_answer clock.Missing clock.Missing e = refl
+pub clock_one_answer : (x y : Option (ℕ × Cursor)) → seen_clock x ≡ seen_clock y → x ≡ y
+clock_one_answer = seen_one_answer (λ t. t) (λ a b e. e)
 
-pub time_one_answer : (x y : TimeRead) → seen_time x ≡ seen_time y → x ≡ y
-time_one_answer (time.Got t o c) (time.Got u q d) e =
-    let h : c.at ≡ d.at = cc in let z : ◌≡◌ {A = Spelt} (t, o) (u, q) = cc in rw (ap (λ (x : Spelt). x.0) z, ap (λ (x : Spelt). x.1) z, h)
-time_one_answer (time.Got t o c) time.Missing e = cc
-time_one_answer time.Missing (time.Got u q d) e = cc
-time_one_answer time.Missing time.Missing e = refl
+spelt_one : (a b : SpeltTime) → spelt a ≡ spelt b → a ≡ b
+spelt_one a b e = rw (ap (λ (x : Spelt). x.0) e, ap (λ (x : Spelt). x.1) e)
+
+pub time_one_answer : (x y : Option (SpeltTime × Cursor)) → seen_time x ≡ seen_time y → x ≡ y
+time_one_answer = seen_one_answer spelt spelt_one

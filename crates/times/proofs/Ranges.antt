@@ -5,9 +5,9 @@ use mathlib.Core.Path.{◌≡◌, refl, sym, ◌∙◌}
 use native.Mathlib.Omega.{arith}
 use borrow.Author.Tests.{leb-true, leb-false, le-leb, lt-leb, eqb-true, eqb-false, lt-ltb, le-ltb}
 use lib.Dec.{leb, ltb, eqb, leb-suc-suc}
+use Rattle.std.specs.Prelude.{Some}
 use Rattle.records.specs.Items.{signed}
 use Rattle.records.specs.declared.Time.TheVariants.{Fixed}
-use Rattle.records.specs.declared.Repeat.TheVariants.{Every}
 use Rattle.times.specs.Times.{minutes_of}
 use Rattle.times.specs.Meanings.{midnight, next_midnight, near, good_start, good_end, good_repeat}
 
@@ -51,7 +51,7 @@ module _ (h m : ℕ) where
       minute false e = rw e
 
   -- a repeat, `/H:MM`: MM 0 to 59, and hour 0 to 23
-  repeat_range : good_repeat (Every (minutes_of h m)) ≡ (leb m 59 && leb h 23)
+  repeat_range : good_repeat (Some (minutes_of h m)) ≡ (leb m 59 && leb h 23)
   repeat_range = minute _ refl
     where
       hour : (t : Bool) → leb h 23 ≡ t → leb m 59 ≡ true → ltb (h * 60 + m) midnight ≡ t
@@ -63,5 +63,5 @@ module _ (h m : ℕ) where
       minute false e = rw e
 
 -- a repeat, `/MM`: 0 to 59
-minutes_range : (m : ℕ) → good_repeat (Every (minutes_of 0 m)) ≡ leb m 59
+minutes_range : (m : ℕ) → good_repeat (Some (minutes_of 0 m)) ≡ leb m 59
 minutes_range m = repeat_range 0 m ∙ and-true (leb m 59)

@@ -1,5 +1,5 @@
 -- Span: time`+`; or time`-`end and then nothing, `+`, `/MM` or `/H:MM`; a time alone is a shape too (docs/RULES.md, 2).
-use Rattle.std.specs.Prelude.{ℕ, Bool, true, false}
+use Rattle.std.specs.Prelude.{ℕ, Bool, true, false, Option, Some, None}
 use Rattle.names.specs.Read.{Reader, pure, ◌>>=◌, ◌>>◌, ◌or◌}
 use Rattle.names.specs.Texts.{sign}
 use Rattle.names.specs.Numbers.{minutes}
@@ -8,8 +8,6 @@ use Rattle.names.specs.Spellings.{odd_from}
 use Rattle.names.specs.declared.Manner.{Manner}
 use Rattle.records.specs.Items.{item, meant}
 use Rattle.records.specs.declared.Item.{Item}
-use Rattle.records.specs.declared.Repeat.{Repeat}
-use Rattle.records.specs.declared.Repeat.TheVariants.{Never, Every}
 use Rattle.times.specs.Times.{minutes_of, clock, Spelt, time, event_alone}
 use Rattle.times.specs.Meanings.{span_meaning}
 use Rattle.times.specs.Shapes.{RawSpan, Alone, Open, Until}
@@ -19,8 +17,8 @@ unfoldable pub repeated : Reader ℕ
 repeated = clock or (do m ← minutes; pure (minutes_of 0 m))
 
 -- what stands after a span's end: `+`, `/MM` or `/H:MM`, or nothing; so the repeat, and whether the end is open
-unfoldable pub tail : Reader (Repeat × Bool)
-tail = (do sign "+"; pure (Never, true)) or (do sign "/"; n ← repeated; pure (Every n, false)) or pure (Never, false)
+unfoldable pub tail : Reader (Option ℕ × Bool)
+tail = (do sign "+"; pure (None, true)) or (do sign "/"; n ← repeated; pure (Some n, false)) or pure (None, false)
 
 -- after a start: `-` and an end, and what stands after it
 unfoldable pub until_time : Spelt → Reader RawSpan

@@ -5,28 +5,20 @@ mod meanings;
 mod spans;
 mod times;
 
-use names::Cursor;
-use records::{Repeat, Time};
+pub use meanings::{good_end, good_start};
+use records::Time;
 pub use spans::{event_item_after, time_item};
 
-// What reading a clock time finds: its minutes.
+// A time as it is written, and whether the name of its event calls for a warning.
 #[derive(Clone, Copy)]
-pub enum ClockRead {
-    Got(u16, Cursor),
-    Missing,
+struct SpeltTime {
+    time: Time,
+    odd: bool,
 }
 
-// What reading a time finds, and whether the name of its event calls for a warning.
+// What stands after a span's end: after how many minutes it is repeated, if it is, and whether the end is open.
 #[derive(Clone, Copy)]
-pub enum TimeRead {
-    Got(Time, bool, Cursor),
-    Missing,
-}
-
-// What stands after a span's end: the repeat, and whether the end is open; and the place after it.
-#[derive(Clone, Copy)]
-pub struct TailThen {
-    pub repeats: Repeat,
-    pub open_end: bool,
-    pub next: Cursor,
+struct Tail {
+    repeats: Option<u16>,
+    open_end: bool,
 }

@@ -1,10 +1,12 @@
 // Time: `H:MM`, or an event, or `(event±H:MM)`.
-ghost use Rattle.std.specs.Prelude.{◌≤◌, ◌≡◌};
+ghost use Rattle.std.specs.Prelude.{◌≤◌, ◌≡◌, false};
+ghost use Rattle.names.specs.Seen.{Reads};
+ghost use Rattle.records.specs.declared.Time.TheVariants.{Fixed};
 ghost use Rattle.times.specs.Times as times;
-ghost use Rattle.times.specs.Seen.{seen_clock, minutes, ReadsClock, seen_time};
+ghost use Rattle.times.specs.Seen.{spelt, seen_time};
 
-use crate::{ClockRead, TimeRead};
-use names::{Cursor, EVENT, Named, Num, Step};
+use crate::SpeltTime;
+use names::{Cursor, NameKind, Named};
 use records::{Time, signed};
 
 // The minutes of an hour.
@@ -14,6 +16,7 @@ const HOUR: u32 = 60;
 const LAST_MINUTE: u32 = 59;
 
 // What is read where MM is above 59: more minutes than any range allows, and than any clock time has (99:59 has 5,999).
+// A number, and no None: the definition out_of_range (specs/Times.antt) is one, so that the range refuses it as any other.
 const OUT_OF_RANGE: u16 = 9999;
 
 // The minutes of `H:MM`.
@@ -29,107 +32,100 @@ pub fn minutes_of(h: u32, m: u32) -> u16
 }
 
 // `H:MM`
-pub fn clock(s: &[u8], c: Cursor) -> ClockRead
-    ensures { ReadsClock (times.clock s.now c.at) result }
+#[tactic(auto, unfolding(crate::specs::Times::clock))]
+pub fn clock(s: &[u8], c: Cursor) -> Option<(u16, Cursor)>
+    ensures { Reads times.out_of_range (times.clock s.now c.at) result }
 {
-    let hours = c.hour(s);
-    let Num::Got(h, d) = hours else {
-        return ClockRead::Missing;
-    };
-    let colon = d.sign(s, b':');
-    let Step::Got(e) = colon else {
-        return ClockRead::Missing;
-    };
-    let minutes = e.minute(s);
-    let Num::Got(m, f) = minutes else {
-        return ClockRead::Missing;
-    };
-    ClockRead::Got(minutes_of(h, m), f)
+    let (h, c) = c.hour(s)?;
+    let c = c.sign(s, b':')?;
+    let (m, c) = c.minute(s)?;
+    Some((minutes_of(h, m), c))
 }
 
-// An event by its number, with minutes added or taken off.
-pub fn event_of(e: u8, minutes: i16) -> Time
-    ensures { result ≡ times.event_of e minutes }
+// An event by its number, with minutes added or taken off. (A number: the value of its name, as `Cursor::named` reads it.)
+#[tactic(auto, unfolding(crate::specs::Times::event_of))]
+fn event_of(event: u8, minutes: i16) -> Time
+    ensures { result ≡ times.event_of event minutes }
 {
-    if e == 1 {
-        return Time::Dawn(minutes);
+    match event {
+        1 => Time::Dawn(minutes),
+        2 => Time::Sunrise(minutes),
+        3 => Time::Sunset(minutes),
+        _ => Time::Dusk(minutes),
     }
-    if e == 2 {
-        return Time::Sunrise(minutes);
+}
+
+impl SpeltTime {
+    // A clock time.
+    pub fn clock(minutes: u16) -> SpeltTime
+        ensures { spelt result ≡ (Fixed minutes, false) }
+    {
+        SpeltTime {
+            time: Time::Fixed(minutes),
+            odd: false,
+        }
     }
-    if e == 3 {
-        return Time::Sunset(minutes);
+
+    // An event, with minutes added or taken off.
+    pub fn event(event: Named, minutes: i16) -> SpeltTime
+        ensures { spelt result ≡ (times.event_of event.value minutes, event.odd) }
+    {
+        SpeltTime {
+            time: event_of(event.value, minutes),
+            odd: event.odd,
+        }
     }
-    Time::Dusk(minutes)
 }
 
 // A clock time that is added to an event, or taken off.
-fn sun(event: u8, odd: bool, negative: bool, time: ClockRead) -> TimeRead
-    requires { minutes time ≤ times.out_of_range }
-    ensures { times.sun_of (event, odd) negative (seen_clock time) ≡ seen_time result }
+fn sun(s: &[u8], c: Cursor, event: Named, negative: bool) -> Option<(SpeltTime, Cursor)>
+    ensures { times.sun_of (event.value, event.odd) negative (times.clock s.now c.at) ≡ seen_time result }
 {
-    match time {
-        ClockRead::Got(t, c) => TimeRead::Got(event_of(event, signed(negative, t)), odd, c),
-        ClockRead::Missing => TimeRead::Missing,
-    }
+    let (minutes, c) = clock(s, c)?;
+    Some((SpeltTime::event(event, signed(negative, minutes)), c))
 }
 
 // After `(` and an event: `±H:MM`.
-fn with_offset(s: &[u8], c: Cursor, event: u8, odd: bool) -> TimeRead
-    ensures { times.with_offset (event, odd) s.now c.at ≡ seen_time result }
+#[tactic(auto, using(crate::proofs::Laws::with_offset_plus), unfolding(crate::specs::Times::with_offset))]
+fn with_offset(s: &[u8], c: Cursor, event: Named) -> Option<(SpeltTime, Cursor)>
+    ensures { times.with_offset (event.value, event.odd) s.now c.at ≡ seen_time result }
 {
-    let plus = c.sign(s, b'+');
-    if let Step::Got(d) = plus {
-        return sun(event, odd, false, clock(s, d));
+    if let Some(d) = c.sign(s, b'+') {
+        return sun(s, d, event, false);
     }
-    let minus = c.sign(s, b'-');
-    let Step::Got(e) = minus else {
-        return TimeRead::Missing;
-    };
-    sun(event, odd, true, clock(s, e))
+    let c = c.sign(s, b'-')?;
+    sun(s, c, event, true)
 }
 
 // `(event±H:MM)`
-fn event_with_offset(s: &[u8], c: Cursor) -> TimeRead
+#[tactic(auto, unfolding(crate::specs::Times::event_with_offset))]
+fn event_with_offset(s: &[u8], c: Cursor) -> Option<(SpeltTime, Cursor)>
     ensures { times.event_with_offset s.now c.at ≡ seen_time result }
 {
-    let left = c.sign(s, b'(');
-    let Step::Got(d) = left else {
-        return TimeRead::Missing;
-    };
-    let name = d.named(s, EVENT);
-    let Named::Got(event, odd, e) = name else {
-        return TimeRead::Missing;
-    };
-    let time = with_offset(s, e, event, odd);
-    let TimeRead::Got(t, o, f) = time else {
-        return TimeRead::Missing;
-    };
-    let right = f.sign(s, b')');
-    let Step::Got(g) = right else {
-        return TimeRead::Missing;
-    };
-    TimeRead::Got(t, o, g)
+    let c = c.sign(s, b'(')?;
+    let (event, c) = c.named(s, NameKind::Event as u8)?;
+    let (time, c) = with_offset(s, c, event)?;
+    let c = c.sign(s, b')')?;
+    Some((time, c))
 }
 
 // An event, or `(event±H:MM)`.
-pub fn event_time(s: &[u8], c: Cursor) -> TimeRead
+pub fn event_time(s: &[u8], c: Cursor) -> Option<(SpeltTime, Cursor)>
     ensures { times.event_time s.now c.at ≡ seen_time result }
 {
-    let name = c.named(s, EVENT);
-    if let Named::Got(event, odd, e) = name {
-        return TimeRead::Got(event_of(event, 0), odd, e);
+    match c.named(s, NameKind::Event as u8) {
+        Some((event, d)) => Some((SpeltTime::event(event, 0), d)),
+        None => event_with_offset(s, c),
     }
-    event_with_offset(s, c)
 }
 
 // A time.
-pub fn time(s: &[u8], c: Cursor) -> TimeRead
+#[tactic(auto, unfolding(crate::specs::Times::time))]
+pub fn time(s: &[u8], c: Cursor) -> Option<(SpeltTime, Cursor)>
     ensures { times.time s.now c.at ≡ seen_time result }
 {
-    let fixed = clock(s, c);
-    match fixed {
-        ClockRead::Got(t, d) => TimeRead::Got(Time::Fixed(t), false, d),
-        ClockRead::Missing => event_time(s, c),
+    match clock(s, c) {
+        Some((minutes, d)) => Some((SpeltTime::clock(minutes), d)),
+        None => event_time(s, c),
     }
 }

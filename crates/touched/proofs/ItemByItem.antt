@@ -13,8 +13,7 @@ use Rattle.touched.specs.Kinds.{kind_of, of_kind, best_by, kind_by, rule_by}
 use Rattle.touched.specs.Founds.{keep, come, begun, keep_of, with_item, with_items, ItemByItem, OneMore}
 use Rattle.touched.specs.declared.Touch.{Touch}
 use Rattle.touched.specs.declared.Touch.TheVariants.{No, Undecided, Yes}
-use Rattle.touched.specs.declared.Kept.{Kept}
-use Rattle.touched.specs.declared.Kept.TheVariants.{Free, Best}
+use Rattle.std.specs.Prelude.{Option, Some, None}
 use Rattle.touched.specs.declared.Found.{Found}
 use Rattle.touched.proofs.Laws.{best_no}
 
@@ -30,27 +29,27 @@ best_assoc Yes b c = refl
 
 module _ (d : OnDay) where
   -- one kind alone
-  abbrev keeps : ℕ → Kept → List Item → Kept
+  abbrev keeps : ℕ → Option Touch → List Item → Option Touch
   keeps k x [] = x
   keeps k x (a ∷ l) = keeps k (keep_of d a k x) l
 
   -- after an item of the kind, the best of it and of those that follow
-  after : (k : ℕ) (b : Touch) (l : List Item) → keeps k (Best b) l ≡ Best (best b (best_by (touch d) (of_kind k l)))
+  after : (k : ℕ) (b : Touch) (l : List Item) → keeps k (Some b) l ≡ Some (best b (best_by (touch d) (of_kind k l)))
   unfolding of_kind best_by
-  after k b [] = ap Best (sym (best_no b))
+  after k b [] = ap Some (sym (best_no b))
   after k b (a ∷ l) = go (λ x. after k x l) (eqb (kind_of a) k)
     where
-      go : ((x : Touch) → keeps k (Best x) l ≡ Best (best x (best_by (touch d) (of_kind k l)))) → (t : Bool) → keeps k (if t then keep (Best b) (touch d a) else Best b) l ≡ Best (best b (best_by (touch d) (if t then a ∷ of_kind k l else of_kind k l)))
-      go r true = r (best b (touch d a)) ∙ ap Best (best_assoc b (touch d a) (best_by (touch d) (of_kind k l)))
+      go : ((x : Touch) → keeps k (Some x) l ≡ Some (best x (best_by (touch d) (of_kind k l)))) → (t : Bool) → keeps k (if t then keep (Some b) (touch d a) else Some b) l ≡ Some (best b (best_by (touch d) (if t then a ∷ of_kind k l else of_kind k l)))
+      go r true = r (best b (touch d a)) ∙ ap Some (best_assoc b (touch d a) (best_by (touch d) (of_kind k l)))
       go r false = r b
 
   -- from none of them
-  kind_is : (k : ℕ) (l : List Item) → come (keeps k Free l) ≡ kind_by (touch d) (of_kind k l)
+  kind_is : (k : ℕ) (l : List Item) → come (keeps k None l) ≡ kind_by (touch d) (of_kind k l)
   unfolding of_kind best_by
   kind_is k [] = refl
   kind_is k (a ∷ l) = go (kind_is k l) (eqb (kind_of a) k)
     where
-      go : come (keeps k Free l) ≡ kind_by (touch d) (of_kind k l) → (t : Bool) → come (keeps k (if t then keep Free (touch d a) else Free) l) ≡ kind_by (touch d) (if t then a ∷ of_kind k l else of_kind k l)
+      go : come (keeps k None l) ≡ kind_by (touch d) (of_kind k l) → (t : Bool) → come (keeps k (if t then keep None (touch d a) else None) l) ≡ kind_by (touch d) (if t then a ∷ of_kind k l else of_kind k l)
       go r true = ap come (after k (touch d a) l)
       go r false = r
 

@@ -1,5 +1,5 @@
 -- A rule run over recorded days (docs/RULES.md, 11): lent bytes have three numbers for each day, year, month and day, and one number for each answer.
-use Rattle.std.specs.Prelude.{ℕ, zero, suc, ◌+◌, ◌*◌, ◌/◌, ◌%◌, Bool, true, ◌&&◌, List, [], ◌∷◌, map, eqb, leb, ltb, length, if◌then◌else◌}
+use Rattle.std.specs.Prelude.{ℕ, zero, suc, ◌+◌, ◌*◌, ◌/◌, ◌%◌, Bool, true, ◌&&◌, List, [], ◌∷◌, map, eqb, leb, ltb, length, if◌then◌else◌, Result, Ok, Err}
 use Rattle.std.proofs.Math.Option.{Option, none, some}
 use Rattle.lent_slots.specs.Tables.{Tables}
 use Rattle.records.specs.declared.Item.{Item}
@@ -12,6 +12,8 @@ use Rattle.almanac.specs.Weeks.{on_day}
 use Rattle.almanac.specs.declared.Ymd.{Ymd}
 use Rattle.touched.specs.Touches.{touch_word}
 use Rattle.touched.specs.Kinds.{rule_touch}
+use Rattle.touched.specs.declared.days.DaysError.{DaysError}
+use Rattle.touched.specs.declared.days.DaysError.TheVariants.{NoFit, NoDays, FewAnswers}
 
 -- ---- the days
 
@@ -59,6 +61,16 @@ few_answers = 24
 -- records that do not fit
 abbrev pub no_fit : ℕ
 no_fit = 16
+
+-- the number of each reason why a rule is not run, and of an outcome
+abbrev pub error_number : DaysError → ℕ
+error_number NoFit = no_fit
+error_number NoDays = no_days
+error_number FewAnswers = few_answers
+
+abbrev pub number_of : Result (Unit {0}) DaysError → ℕ
+number_of (Ok u) = 0
+number_of (Err e) = error_number e
 
 -- the number and the answers of a rule, for room for so many answers
 unfoldable pub rule_answers : Option Rule → List ℕ → ℕ → ℕ × List ℕ

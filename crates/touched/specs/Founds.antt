@@ -1,5 +1,5 @@
 -- What is known of a rule on a day, item by item.
-use Rattle.std.specs.Prelude.{ℕ, List, [], ◌∷◌, ◌++◌, ◌≡◌, eqb, if◌then◌else◌}
+use Rattle.std.specs.Prelude.{ℕ, List, [], ◌∷◌, ◌++◌, ◌≡◌, eqb, if◌then◌else◌, Option, Some, None}
 use Rattle.records.specs.declared.Item.{Item}
 use Rattle.almanac.specs.declared.OnDay.{OnDay}
 use Rattle.touched.specs.Touches.{best, worst}
@@ -7,26 +7,24 @@ use Rattle.touched.specs.Selectors.{touch}
 use Rattle.touched.specs.Kinds.{kind_of, rule_touch}
 use Rattle.touched.specs.declared.Touch.{Touch}
 use Rattle.touched.specs.declared.Touch.TheVariants.{Yes}
-use Rattle.touched.specs.declared.Kept.{Kept}
-use Rattle.touched.specs.declared.Kept.TheVariants.{Free, Best}
 use Rattle.touched.specs.declared.Found.{Found}
 
 -- a kind with an item more
-abbrev pub keep : Kept → Touch → Kept
-keep Free t = Best t
-keep (Best b) t = Best (best b t)
+abbrev pub keep : Option Touch → Touch → Option Touch
+keep None t = Some t
+keep (Some b) t = Some (best b t)
 
 -- what a kind comes to: yes where it has no item
-abbrev pub come : Kept → Touch
-come Free = Yes
-come (Best b) = b
+abbrev pub come : Option Touch → Touch
+come None = Yes
+come (Some b) = b
 
 -- before a rule's items
 abbrev pub begun : Found
-begun = record { years = Free; month_days = Free; weeks = Free; weekdays = Free }
+begun = record { years = None; month_days = None; weeks = None; weekdays = None }
 
 -- kind k with an item more, if the item is of that kind
-abbrev pub keep_of : OnDay → Item → ℕ → Kept → Kept
+abbrev pub keep_of : OnDay → Item → ℕ → Option Touch → Option Touch
 keep_of d a k x = if eqb (kind_of a) k then keep x (touch d a) else x
 
 -- with an item more

@@ -1,10 +1,12 @@
 -- A rule: the worst of its kinds, each of which is its best item.
-use Rattle.std.specs.Prelude.{ℕ, List, [], ◌∷◌, eqb, if◌then◌else◌}
+use Rattle.std.specs.Prelude.{ℕ, List, [], ◌∷◌, eqb, if◌then◌else◌, Option, Some, None}
 use Rattle.records.specs.declared.Item.{Item}
 use Rattle.records.specs.declared.Item.TheVariants.{Years, Months, Dates, Weeks, Weekdays, Holidays, Times}
 use Rattle.almanac.specs.declared.OnDay.{OnDay}
 use Rattle.touched.specs.Touches.{best, worst}
 use Rattle.touched.specs.Selectors.{touch}
+use Rattle.touched.specs.declared.SelectorKind.{SelectorKind}
+use Rattle.touched.specs.declared.SelectorKind.TheVariants.{Year, MonthDay, Week, Weekday}
 use Rattle.touched.specs.declared.Touch.{Touch}
 use Rattle.touched.specs.declared.Touch.TheVariants.{No, Yes}
 
@@ -17,6 +19,14 @@ kind_of (Weeks r) = 3
 kind_of (Weekdays r) = 4
 kind_of (Holidays r) = 4
 kind_of (Times r) = 0
+
+-- the number of a kind as the code has it
+abbrev pub number_of : Option SelectorKind → ℕ
+number_of None = 0
+number_of (Some Year) = 1
+number_of (Some MonthDay) = 2
+number_of (Some Week) = 3
+number_of (Some Weekday) = 4
 
 -- the items of a kind
 unfoldable pub of_kind : ℕ → List Item → List Item

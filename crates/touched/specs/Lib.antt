@@ -6,3 +6,4 @@ pub mod Founds
 pub mod Days
 pub mod Senses
 pub mod Proved
+pub mod Walk

@@ -1,130 +1,111 @@
 // A rule run over recorded days.
 ghost use Rattle.std.specs.Prelude.{◌+◌, ◌*◌, ◌/◌, ◌≤◌, true, map, ◌≡◌, length};
-ghost use Rattle.almanac.specs.declared.OnDay.{OnDay};
-ghost use Rattle.table_rules.specs.Rules as rules;
+ghost use Rattle.lent_slots.specs.Lent.{lent};
 ghost use Rattle.table_rules.specs.Numbers.{written};
 ghost use Rattle.touched.specs.Days as days;
 ghost use Rattle.touched.specs.Kinds as kinds;
-ghost use Rattle.touched.specs.Touches as touches;
+ghost use Rattle.touched.specs.Walk.{items_left};
 
-use crate::{Found, Touch};
-use almanac::{OnDay, Ymd, on_day, possible};
-use lent_slots::{number_in, put_word, record_at, slots};
-use records::item_of;
-use table_rules::{RuleItems, is_head, rule_items};
+use crate::{Found, Items, Touch};
+use almanac::{OnDay, Ymd};
+use lent_slots::{Table, number_in, put_word};
+use table_rules::rule_items;
 use tables::table_fits;
 
-// The records do not fit.
-const NO_FIT: u32 = 16;
+// The bytes of a number, and of a recorded day: three numbers, its year, its month and its day of the month.
+const NUMBER_BYTES: usize = 4;
 
-// An impossible day, numbers left over, or no such rule.
-const NO_DAYS: u32 = 20;
+const DAY_BYTES: usize = 3 * NUMBER_BYTES;
 
-// Fewer answers than days.
-const FEW_ANSWERS: u32 = 24;
-
-// A number as a year; one that is too great is taken as 0, which no day has.
-fn year_in(n: u32) -> u16
-    ensures { result ≡ days.up_to 65535 n }
-{
-    if n <= 65535 { n as u16 } else { 0 }
+// Why a rule is not run over recorded days, with the number that C gets.
+#[derive(Clone, Copy, PartialEq, Eq)]
+enum DaysError {
+    // The records do not fit.
+    NoFit = 16,
+    // An impossible day, numbers left over, or no such rule.
+    NoDays = 20,
+    // Fewer answers than days.
+    FewAnswers = 24,
 }
 
-// The same of a month or a day.
-fn part_in(n: u32) -> u8
-    ensures { result ≡ days.up_to 255 n }
-{
-    if n <= 255 { n as u8 } else { 0 }
+impl DaysError {
+    // Its number.
+    fn number(self) -> u32
+        ensures { result ≡ days.error_number self }
+    {
+        self as u32
+    }
 }
 
-// The day numbered i.
+// The day numbered i. A number that is too great for its field is taken as 0, which no day has.
+#[tactic(auto, unfolding(crate::specs::Days::day_at, crate::specs::Days::up_to))]
 fn day_at(b: &[u8], i: usize) -> Ymd
     requires { i * 12 + 12 ≤ length b.now }
     ensures { result ≡ days.day_at b.now i }
 {
-    let p = i * 12;
+    let p = i * DAY_BYTES;
     Ymd {
-        year: year_in(number_in(b, p)),
-        month: part_in(number_in(b, p + 4)),
-        day: part_in(number_in(b, p + 8)),
+        year: u16::try_from(number_in(b, p)).unwrap_or(0),
+        month: u8::try_from(number_in(b, p + NUMBER_BYTES)).unwrap_or(0),
+        day: u8::try_from(number_in(b, p + 2 * NUMBER_BYTES)).unwrap_or(0),
     }
 }
 
 // Whether nothing is left over and each day is one of the calendar, 1900 to 9999.
+#[tactic(auto, unfolding(crate::specs::Days::days_fit))]
 fn days_fit(b: &[u8]) -> bool
     ensures { result ≡ days.days_fit b.now }
 {
-    let n = b.len() / 12;
-    let mut i = 0;
-    while i < n {
-        if !possible(day_at(b, i)) {
-            return false;
-        }
-        i += 1;
-    }
-    b.len() % 12 == 0
+    b.len() % DAY_BYTES == 0 && (0..b.len() / DAY_BYTES).all(|i| day_at(b, i).possible())
 }
 
-// Whether a day is touched by the items of a table from a slot up to the next head.
-fn rule_touch(words: &[i32], bytes: &[u8], from: usize, day: OnDay) -> Touch
-    ensures { result ≡ kinds.rule_touch day (rules.items_up (words.now, bytes.now) from) }
+// Whether a day is touched by a rule's items.
+fn rule_touch(items: Items, day: OnDay) -> Touch
+    ensures { result ≡ kinds.rule_touch day (items_left items.entry) }
 {
-    let n = slots(words, bytes);
-    let mut found = Found::begun();
-    let mut slot = from;
-    while slot < n {
-        let w = record_at(words, bytes, slot);
-        if is_head(w) {
-            return found.ended();
-        }
-        found = found.with(day, item_of(w));
-        slot += 1;
-    }
-    found.ended()
+    items
+        .fold(Found::begun(), |found, a| found.with(day, a))
+        .ended()
 }
 
-// The number of an answer.
-fn touch_number(t: Touch) -> u32
-    ensures { result ≡ touches.touch_word t }
-{
-    match t {
-        Touch::No => 0,
-        Touch::Yes => 1,
-        Touch::Undecided => 2,
-    }
-}
-
-// The answers of the items from a slot on are written, a number for each day.
-fn answer_days(words: &[i32], bytes: &[u8], from: usize, b: &[u8], answers: &mut [u8])
+// The answers of a rule are written, a number for each day.
+#[tactic(auto, using(crate::proofs::DayLaws::days_possible, crate::proofs::DayLaws::answers_next, crate::proofs::DayLaws::answers_end))]
+fn answer_days(items: Items, b: &[u8], answers: &mut [u8])
     requires b_value { days.all_possible (days.days_in b.now) ≡ true }
     requires b_in_bounds { days.day_count b.now ≤ length answers.old / 4 }
-    ensures { answers.new ≡ written answers.old 0 (map (days.answer_for (rules.items_up (words.now, bytes.now) from)) (days.days_in b.now)) }
+    ensures { answers.new ≡ written answers.old 0 (map (days.answer_for (items_left items.entry)) (days.days_in b.now)) }
 {
-    let n = b.len() / 12;
-    let mut i = 0;
-    while i < n {
-        let t = rule_touch(words, bytes, from, on_day(day_at(b, i)));
-        put_word(answers, i * 4, touch_number(t));
-        i += 1;
+    for i in 0..b.len() / DAY_BYTES {
+        let t = rule_touch(items, day_at(b, i).on_day());
+        put_word(answers, i * NUMBER_BYTES, u32::from(t));
     }
 }
 
-// Runs the rule numbered k of a table over recorded days. Nothing is written unless the number is 0.
-pub fn rule_days(words: &[i32], bytes: &[u8], k: usize, b: &[u8], answers: &mut [u8]) -> u32
-    ensures { (result, answers.new) ≡ days.rule_days (words.now, bytes.now) k b.now answers.old }
+// Runs the rule numbered k of a table over recorded days, if it can be run.
+#[tactic(auto, using(crate::proofs::DayLaws::fit_possible), unfolding(crate::specs::Days::rule_days, crate::specs::Days::table_answers, crate::specs::Days::rule_answers, table_rules::specs::Numbers::written))]
+fn answer_rule(table: Table, k: usize, b: &[u8], answers: &mut [u8]) -> Result<(), DaysError>
+    ensures { (days.number_of result, answers.new) ≡ days.rule_days (lent table.entry) k b.now answers.old }
 {
-    if !table_fits(words, bytes) {
-        return NO_FIT;
+    if !table_fits(table) {
+        return Err(DaysError::NoFit);
     }
-    let RuleItems::From(from) = rule_items(words, bytes, k) else {
-        return NO_DAYS;
-    };
+    let from = rule_items(table, k).ok_or(DaysError::NoDays)?;
     if !days_fit(b) {
-        return NO_DAYS;
+        return Err(DaysError::NoDays);
     }
-    if answers.len() / 4 < b.len() / 12 {
-        return FEW_ANSWERS;
+    if answers.len() / NUMBER_BYTES < b.len() / DAY_BYTES {
+        return Err(DaysError::FewAnswers);
     }
-    answer_days(words, bytes, from, b, answers);
-    0
+    answer_days(Items::new(table, from), b, answers);
+    Ok(())
+}
+
+// Runs the rule numbered k of a table over recorded days. Nothing is written unless the number is 0. It is a number, since C gets it.
+pub fn rule_days(table: Table, k: usize, b: &[u8], answers: &mut [u8]) -> u32
+    ensures { (result, answers.new) ≡ days.rule_days (lent table.entry) k b.now answers.old }
+{
+    match answer_rule(table, k, b, answers) {
+        Ok(()) => 0,
+        Err(e) => e.number(),
+    }
 }

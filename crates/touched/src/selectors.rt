@@ -1,174 +1,154 @@
 // Whether a day selector touches a day.
-ghost use Rattle.std.specs.Prelude.{◌≤◌, ◌≡◌};
+ghost use Rattle.std.specs.Prelude.{◌≡◌};
 ghost use Rattle.touched.specs.Selectors as selectors;
 
 use crate::Touch;
 use crate::touches::decided;
-use almanac::OnDay;
+use almanac::{OnDay, Ymd};
 use names::within;
-use records::{DateOffset, DateSpan, Day, Item, MonthSpan, WeekDayRange, WeekRange, YearRange};
+use records::{Date, DateOffset, DateSpan, Day, Item, MonthSpan, WeekDayRange};
+
+// The marks of all five weekdays of a month.
+const ALL_FIVE: u8 = 31;
 
 // Whether n is in the range and on a step, counted from the first; step 0: only the first.
+#[tactic(auto, using(names::proofs::Laws::within_range), unfolding(crate::specs::Selectors::stepped))]
 fn stepped(first: u16, last: u16, step: u16, n: u16) -> bool
     ensures { result ≡ selectors.stepped first last step n }
 {
-    if within(first as u32, last as u32, n as u32) {
-        if step == 0 {
-            n == first
-        } else {
-            (n - first) % step == 0
-        }
-    } else {
-        false
-    }
+    within(u32::from(first), u32::from(last), u32::from(n)) && (n - first).is_multiple_of(step)
 }
 
 // Whether n is from first to last, going round where last is less.
+#[tactic(auto, unfolding(crate::specs::Selectors::round))]
 pub fn round(first: u32, last: u32, n: u32) -> bool
     ensures { result ≡ selectors.round first last n }
 {
     if first <= last {
-        return within(first, last, n);
+        within(first, last, n)
+    } else {
+        first <= n || n <= last
     }
-    if first <= n { true } else { n <= last }
-}
-
-// Zero, of a number with a sign.
-fn is_zero(n: i16) -> bool
-    ensures { result ≡ selectors.is_zero n }
-{
-    if 0 <= n { n <= 0 } else { false }
-}
-
-// Years, by range and step.
-fn years_touch(r: YearRange, d: OnDay) -> Touch
-    ensures { result ≡ selectors.years_touch r d }
-{
-    decided(stepped(r.first, r.last, r.step, d.year))
-}
-
-// Weeks, by range and step.
-fn weeks_touch(r: WeekRange, d: OnDay) -> Touch
-    ensures { result ≡ selectors.weeks_touch r d }
-{
-    decided(stepped(r.first, r.last, r.step, d.week))
 }
 
 // Months go round; those of a year that run backwards are undecided.
+#[tactic(auto, unfolding(crate::specs::Selectors::months_touch))]
 fn months_touch(r: MonthSpan, d: OnDay) -> Touch
     ensures { result ≡ selectors.months_touch r d }
 {
+    let first = u32::from(r.first);
+    let last = u32::from(r.last);
+    let month = u32::from(d.month);
     if r.year == 0 {
-        return decided(round(r.first as u32, r.last as u32, d.month as u32));
+        return decided(round(first, last, month));
     }
-    if r.first <= r.last {
-        if r.year == d.year {
-            decided(within(r.first as u32, r.last as u32, d.month as u32))
-        } else {
-            Touch::No
-        }
-    } else {
-        Touch::Undecided
+    if first > last {
+        return Touch::Undecided;
     }
+    decided(r.year == d.year && within(first, last, month))
 }
 
 // A day of a month as a number: 5 January is 105.
-fn month_day(m: u8, d: u8) -> u32
-    ensures { result ≡ selectors.month_day m d }
+fn month_day(month: u8, day: u8) -> u32
+    ensures { result ≡ selectors.month_day month day }
 {
-    m as u32 * 100 + d as u32
+    u32::from(month) * 100 + u32::from(day)
 }
 
-// From day s of year y to day e of year z (0: no year).
-fn fixed_touch(y: u16, s: u32, z: u16, e: u32, d: OnDay) -> Touch
-    requires { (s ≤ 30000) × (e ≤ 30000) }
-    ensures { result ≡ selectors.fixed_touch y s z e d }
+// The same with its year: 5 January 2024 is 20240105.
+fn dated(year: u16, month: u8, day: u8) -> u32
+    ensures { result ≡ selectors.dated year month day }
 {
-    let x = month_day(d.month, d.day);
-    if y == 0 {
-        if z == 0 {
-            decided(round(s, e, x))
-        } else {
-            Touch::Undecided
-        }
-    } else {
-        if z == 0 {
-            Touch::Undecided
-        } else {
-            decided(within(
-                y as u32 * 10000 + s,
-                z as u32 * 10000 + e,
-                d.year as u32 * 10000 + x,
-            ))
-        }
+    u32::from(year) * 10000 + month_day(month, day)
+}
+
+// From one day to another; the year 0 is none.
+#[tactic(auto, unfolding(crate::specs::Selectors::fixed_touch))]
+fn fixed_touch(a: Ymd, b: Ymd, d: OnDay) -> Touch
+    ensures { result ≡ selectors.fixed_touch a.year (selectors.month_day a.month a.day) b.year (selectors.month_day b.month b.day) d }
+{
+    if a.year == 0 && b.year == 0 {
+        return decided(round(
+            month_day(a.month, a.day),
+            month_day(b.month, b.day),
+            month_day(d.month, d.day),
+        ));
     }
+    if a.year == 0 || b.year == 0 {
+        return Touch::Undecided;
+    }
+    decided(within(
+        dated(a.year, a.month, a.day),
+        dated(b.year, b.month, b.day),
+        dated(d.year, d.month, d.day),
+    ))
 }
 
 // Both ends fixed.
-fn ends_touch(y: u16, a: Day, z: u16, b: Day, d: OnDay) -> Touch
-    ensures { result ≡ selectors.ends_touch y a z b d }
+#[tactic(auto, unfolding(crate::specs::Selectors::ends_touch))]
+fn ends_touch(a: Date, b: Date, d: OnDay) -> Touch
+    ensures { result ≡ selectors.ends_touch a.year a.day b.year b.day d }
 {
-    match a {
-        Day::Fixed(m, f) => match b {
-            Day::Fixed(n, l) => fixed_touch(y, month_day(m, f), z, month_day(n, l), d),
-            _ => Touch::Undecided,
-        },
+    match (a.day, b.day) {
+        (Day::Fixed(first_month, first), Day::Fixed(last_month, last)) => {
+            let from = Ymd {
+                year: a.year,
+                month: first_month,
+                day: first,
+            };
+            let to = Ymd {
+                year: b.year,
+                month: last_month,
+                day: last,
+            };
+            fixed_touch(from, to, d)
+        }
         _ => Touch::Undecided,
     }
 }
 
 // No offset.
+#[tactic(auto, unfolding(crate::specs::Selectors::no_offset, crate::specs::Selectors::is_zero))]
 pub fn no_offset(o: DateOffset) -> bool
     ensures { result ≡ selectors.no_offset o }
 {
-    if is_zero(o.wday) {
-        is_zero(o.days)
-    } else {
-        false
-    }
+    o.wday == 0 && o.days == 0
 }
 
 // Dates without offsets.
+#[tactic(auto, unfolding(crate::specs::Selectors::dates_touch))]
 fn dates_touch(r: DateSpan, d: OnDay) -> Touch
     ensures { result ≡ selectors.dates_touch r d }
 {
-    let before = r.start_offset;
-    let after = r.end_offset;
-    if no_offset(before) {
-        if no_offset(after) {
-            let start = r.start;
-            let end = r.end;
-            let from = start.day;
-            let to = end.day;
-            return ends_touch(start.year, from, end.year, to, d);
-        }
+    if no_offset(r.start_offset) && no_offset(r.end_offset) {
+        ends_touch(r.start, r.end, d)
+    } else {
+        Touch::Undecided
     }
-    Touch::Undecided
 }
 
 // Weekdays go round; an offset is undecided, and so are marks unless all ten are set.
+#[tactic(auto, unfolding(crate::specs::Selectors::weekdays_touch, crate::specs::Selectors::is_zero))]
 fn weekdays_touch(r: WeekDayRange, d: OnDay) -> Touch
     ensures { result ≡ selectors.weekdays_touch r d }
 {
-    if is_zero(r.days) {
-        if r.starts == 31 {
-            if r.ends == 31 {
-                return decided(round(r.first as u32, r.last as u32, d.weekday as u32));
-            }
-        }
+    if r.days == 0 && r.starts == ALL_FIVE && r.ends == ALL_FIVE {
+        decided(round(u32::from(r.first), u32::from(r.last), u32::from(d.weekday)))
+    } else {
+        Touch::Undecided
     }
-    Touch::Undecided
 }
 
 // An item; holidays are undecided, and times are no day selectors.
+#[tactic(auto, unfolding(crate::specs::Selectors::touch))]
 pub fn item_touch(d: OnDay, a: Item) -> Touch
     ensures { result ≡ selectors.touch d a }
 {
     match a {
-        Item::Years(r) => years_touch(r, d),
+        Item::Years(r) => decided(stepped(r.first, r.last, r.step, d.year)),
         Item::Months(r) => months_touch(r, d),
         Item::Dates(r) => dates_touch(r, d),
-        Item::Weeks(r) => weeks_touch(r, d),
+        Item::Weeks(r) => decided(stepped(r.first, r.last, r.step, d.week)),
         Item::Weekdays(r) => weekdays_touch(r, d),
         Item::Holidays(_) => Touch::Undecided,
         Item::Times(_) => Touch::Yes,

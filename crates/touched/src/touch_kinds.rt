@@ -5,43 +5,35 @@ ghost use Rattle.touched.specs.Founds as founds;
 
 use crate::selectors::item_touch;
 use crate::touches::{best, worst};
-use crate::{Found, Kept, Touch};
+use crate::{Found, SelectorKind, Touch};
 use almanac::OnDay;
 use records::Item;
 
-// The kind of a day selector: 1 years, 2 months and dates, 3 weeks, 4 weekdays and holidays; 0: none.
-pub fn kind_of(a: Item) -> u8
-    ensures { result ≡ kinds.kind_of a }
+// The kind of a day selector; times are of none.
+pub fn kind_of(a: Item) -> Option<SelectorKind>
+    ensures { kinds.number_of result ≡ kinds.kind_of a }
 {
     match a {
-        Item::Years(_) => 1,
-        Item::Months(_) => 2,
-        Item::Dates(_) => 2,
-        Item::Weeks(_) => 3,
-        Item::Weekdays(_) => 4,
-        Item::Holidays(_) => 4,
-        Item::Times(_) => 0,
+        Item::Years(_) => Some(SelectorKind::Year),
+        Item::Months(_) | Item::Dates(_) => Some(SelectorKind::MonthDay),
+        Item::Weeks(_) => Some(SelectorKind::Week),
+        Item::Weekdays(_) | Item::Holidays(_) => Some(SelectorKind::Weekday),
+        Item::Times(_) => None,
     }
 }
 
 // A kind with an item more.
-fn keep(k: Kept, t: Touch) -> Kept
-    ensures { result ≡ founds.keep k t }
+fn keep(kind: Option<Touch>, t: Touch) -> Option<Touch>
+    ensures { result ≡ founds.keep kind t }
 {
-    match k {
-        Kept::Free => Kept::Best(t),
-        Kept::Best(b) => Kept::Best(best(b, t)),
-    }
+    Some(kind.map_or(t, |b| best(b, t)))
 }
 
 // What a kind comes to: yes where it has no item.
-fn come(k: Kept) -> Touch
-    ensures { result ≡ founds.come k }
+fn come(kind: Option<Touch>) -> Touch
+    ensures { result ≡ founds.come kind }
 {
-    match k {
-        Kept::Free => Touch::Yes,
-        Kept::Best(b) => b,
-    }
+    kind.unwrap_or(Touch::Yes)
 }
 
 impl Found {
@@ -50,60 +42,37 @@ impl Found {
         ensures { result ≡ founds.begun }
     {
         Found {
-            years: Kept::Free,
-            month_days: Kept::Free,
-            weeks: Kept::Free,
-            weekdays: Kept::Free,
+            years: None,
+            month_days: None,
+            weeks: None,
+            weekdays: None,
         }
     }
 
-    // With an item more.
+    // With an item more. (A match: the kinds are these and no others.)
+    #[tactic(auto, unfolding(crate::specs::Founds::with_item))]
     pub fn with(self, d: OnDay, a: Item) -> Found
         ensures { result ≡ founds.with_item d self a }
     {
         let t = item_touch(d, a);
-        let years = self.years;
-        let month_days = self.month_days;
-        let weeks = self.weeks;
-        let weekdays = self.weekdays;
         match kind_of(a) {
-            1 => {
-                let years = keep(years, t);
-                Found {
-                    years,
-                    month_days,
-                    weeks,
-                    weekdays,
-                }
-            }
-            2 => {
-                let month_days = keep(month_days, t);
-                Found {
-                    years,
-                    month_days,
-                    weeks,
-                    weekdays,
-                }
-            }
-            3 => {
-                let weeks = keep(weeks, t);
-                Found {
-                    years,
-                    month_days,
-                    weeks,
-                    weekdays,
-                }
-            }
-            4 => {
-                let weekdays = keep(weekdays, t);
-                Found {
-                    years,
-                    month_days,
-                    weeks,
-                    weekdays,
-                }
-            }
-            _ => self,
+            Some(SelectorKind::Year) => Found {
+                years: keep(self.years, t),
+                ..self
+            },
+            Some(SelectorKind::MonthDay) => Found {
+                month_days: keep(self.month_days, t),
+                ..self
+            },
+            Some(SelectorKind::Week) => Found {
+                weeks: keep(self.weeks, t),
+                ..self
+            },
+            Some(SelectorKind::Weekday) => Found {
+                weekdays: keep(self.weekdays, t),
+                ..self
+            },
+            None => self,
         }
     }
 
@@ -111,13 +80,12 @@ impl Found {
     pub fn ended(self) -> Touch
         ensures { result ≡ founds.ended self }
     {
-        let years = self.years;
-        let month_days = self.month_days;
-        let weeks = self.weeks;
-        let weekdays = self.weekdays;
         worst(
-            come(years),
-            worst(come(month_days), worst(come(weeks), come(weekdays))),
+            come(self.years),
+            worst(
+                come(self.month_days),
+                worst(come(self.weeks), come(self.weekdays)),
+            ),
         )
     }
 }

@@ -8,28 +8,14 @@ use crate::Touch;
 pub fn best(a: Touch, b: Touch) -> Touch
     ensures { result ≡ touches.best a b }
 {
-    match a {
-        Touch::No => b,
-        Touch::Yes => Touch::Yes,
-        Touch::Undecided => match b {
-            Touch::Yes => Touch::Yes,
-            _ => Touch::Undecided,
-        },
-    }
+    a.max(b)
 }
 
 // The worst: no before undecided before yes.
 pub fn worst(a: Touch, b: Touch) -> Touch
     ensures { result ≡ touches.worst a b }
 {
-    match a {
-        Touch::No => Touch::No,
-        Touch::Yes => b,
-        Touch::Undecided => match b {
-            Touch::No => Touch::No,
-            _ => Touch::Undecided,
-        },
-    }
+    a.min(b)
 }
 
 // A test that is made.
@@ -37,4 +23,17 @@ pub fn decided(t: bool) -> Touch
     ensures { result ≡ touches.decided t }
 {
     if t { Touch::Yes } else { Touch::No }
+}
+
+// The number of an answer. It is not the answer's place in their order.
+impl From<Touch> for u32 {
+    ghost from_gives = { λ t n. n ≡ touches.touch_word t };
+
+    fn from(t: Touch) -> u32 {
+        match t {
+            Touch::No => 0,
+            Touch::Yes => 1,
+            Touch::Undecided => 2,
+        }
+    }
 }

@@ -36,6 +36,14 @@ plain_other b e = go (dec_lt b 32) (dec_lt b 0x80)
     go (no l) (yes h) = absurd (true≢false (sym (within_true 32 0x7F b (omega arith) (omega arith)) ∙ e))
     go (no l) (no h) = plain_high b (omega arith)
 
+-- where a byte other than 0 stands, the text goes on
+there : (s : List ℕ) (i : ℕ) → 0 < get_or s i 0 → i < length s
+there s i h = go (dec_lt i (length s))
+  where
+    go : Dec (i < length s) → i < length s
+    go (yes l) = l
+    go (no l) = let e : get_or s i 0 ≡ 0 = get_or-eq_default s 0 (omega arith) in absurd (omega arith)
+
 module _ (s : List ℕ) (i : ℕ) (h : i < length s) where
   -- one of one byte
   pub letter_plain : is_plain (get_or s i 0) ≡ true → letter s i ≡ got tt (i + 1)
@@ -59,6 +67,28 @@ longer_past s i h = longer_from.below s i (rw (get_or-eq_default s 0 h) (omega a
 pub letter_past : (s : List ℕ) (i : ℕ) → length s ≤ i → letter s i ≡ none
 unfolding letter plain
 letter_past s i h = rw (one_past is_plain s i h, longer_past s i h)
+
+-- ---- by the byte that stands here, which is 0 past the text's end
+
+module _ (s : List ℕ) (i : ℕ) where
+  -- a quote is none
+  pub quote_none : get_or s i 0 ≡ 34 → letter s i ≡ none
+  quote_none e = letter_quote s i (there s i (omega arith)) e
+
+  -- from 32 to 127 any other is one
+  pub short_there : within 32 0x7F (get_or s i 0) ≡ true → i < length s
+  short_there w = let r = within_range 32 0x7F (get_or s i 0) w in there s i (omega arith)
+
+  pub short_got : within 32 0x7F (get_or s i 0) ≡ true → (get_or s i 0 ≡ 34 → ⊥) → letter s i ≡ got tt (i + 1)
+  short_got w n = letter_plain s i (short_there w) (plain_is (get_or s i 0) w n)
+
+  -- any other begins a longer one, or none
+  pub long_is : within 32 0x7F (get_or s i 0) ≡ false → letter s i ≡ longer s i
+  long_is w = go (dec_lt i (length s))
+    where
+      go : Dec (i < length s) → letter s i ≡ longer s i
+      go (yes h) = letter_longer s i h (plain_other (get_or s i 0) w)
+      go (no h) = let e : length s ≤ i = omega arith in letter_past s i e ∙ sym (longer_past s i e)
 
 -- ---- any character
 

@@ -7,61 +7,50 @@ ghost use Rattle.names.specs.Seen.{seen_step};
 ghost use Rattle.utf8.specs.Letters as letters;
 ghost use Rattle.utf8.specs.Utf8 as utf8;
 
-use names::{Cursor, Step, within};
+use names::Cursor;
 
 // A byte from lo to hi.
-fn octet(s: &[u8], c: Cursor, lo: u8, hi: u8) -> Step
+fn octet(s: &[u8], c: Cursor, lo: u8, hi: u8) -> Option<Cursor>
     ensures { utf8.octet lo hi s.now c.at ≡ seen_step result }
 {
-    let at = c.at;
-    if at < s.len() {
-        let b = s[at];
-        if within(lo as u32, hi as u32, b as u32) {
-            Step::Got(Cursor { at: at + 1 })
-        } else {
-            Step::Missing
-        }
+    let b = s.get(c.at)?;
+    if (lo..=hi).contains(b) {
+        Some(Cursor { at: c.at + 1 })
     } else {
-        Step::Missing
+        None
     }
 }
 
 // A tail: a byte after a character's first.
-fn tail(s: &[u8], c: Cursor) -> Step
+#[tactic(auto, unfolding(crate::specs::Utf8::utf8_tail))]
+fn tail(s: &[u8], c: Cursor) -> Option<Cursor>
     ensures { utf8.utf8_tail s.now c.at ≡ seen_step result }
 {
     octet(s, c, 0x80, 0xbf)
 }
 
 // A byte from lo to hi and a tail.
-fn two_more(s: &[u8], c: Cursor, lo: u8, hi: u8) -> Step
+fn two_more(s: &[u8], c: Cursor, lo: u8, hi: u8) -> Option<Cursor>
     ensures { utf8.two_more lo hi s.now c.at ≡ seen_step result }
 {
-    let second = octet(s, c, lo, hi);
-    let Step::Got(d) = second else {
-        return second;
-    };
-    tail(s, d)
+    tail(s, octet(s, c, lo, hi)?)
 }
 
 // A byte from lo to hi and two tails.
-fn three_more(s: &[u8], c: Cursor, lo: u8, hi: u8) -> Step
+#[tactic(auto, unfolding(crate::specs::Utf8::utf8_tail))]
+fn three_more(s: &[u8], c: Cursor, lo: u8, hi: u8) -> Option<Cursor>
     ensures { utf8.three_more lo hi s.now c.at ≡ seen_step result }
 {
-    let second = octet(s, c, lo, hi);
-    let Step::Got(d) = second else {
-        return second;
-    };
-    two_more(s, d, 0x80, 0xbf)
+    two_more(s, octet(s, c, lo, hi)?, 0x80, 0xbf)
 }
 
 // A character of more than one byte. Its first byte tells how many it has, and of which bytes its second is.
-fn longer(s: &[u8], c: Cursor) -> Step
+fn longer(s: &[u8], c: Cursor) -> Option<Cursor>
     ensures { utf8.longer s.now c.at ≡ seen_step result }
 {
     let at = c.at;
     if s.len() <= at {
-        return Step::Missing;
+        return None;
     }
     let d = Cursor { at: at + 1 };
     match s[at] {
@@ -72,7 +61,21 @@ fn longer(s: &[u8], c: Cursor) -> Step
         0xf0 => three_more(s, d, 0x90, 0xbf),
         0xf1..=0xf3 => three_more(s, d, 0x80, 0xbf),
         0xf4 => three_more(s, d, 0x80, 0x8f),
-        _ => Step::Missing,
+        _ => None,
+    }
+}
+
+// A character of a comment. Most are of one byte, so these are told first, by one comparison and the quote's.
+fn letter(s: &[u8], c: Cursor) -> Option<Cursor>
+    ensures { letters.letter s.now c.at ≡ seen_step result }
+{
+    let b = c.byte(s);
+    if !(b' '..=0x7f).contains(&b) {
+        longer(s, c)
+    } else if b == b'"' {
+        None
+    } else {
+        Some(Cursor { at: c.at + 1 })
     }
 }
 
@@ -80,22 +83,9 @@ fn longer(s: &[u8], c: Cursor) -> Step
 pub fn letters(s: &[u8], c: Cursor) -> Cursor
     ensures { letters.letters s.now c.at ≡ got tt result.at }
 {
-    let mut at = c.at;
-    while at < s.len() {
-        let b = s[at];
-        // Of one byte: most are, so they are told first, by one comparison and the quote's.
-        if within(32, 0x7f, b as u32) {
-            if b == b'"' {
-                return Cursor { at };
-            }
-            at += 1;
-        } else {
-            let next = longer(s, Cursor { at });
-            let Step::Got(d) = next else {
-                return Cursor { at };
-            };
-            at = d.at;
-        }
+    let mut c = c;
+    while let Some(next) = letter(s, c) {
+        c = next;
     }
-    Cursor { at }
+    c
 }

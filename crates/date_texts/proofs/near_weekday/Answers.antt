@@ -1,25 +1,21 @@
-use borrow.Author.Rules.{rules}
-use mathlib.Core.Path.{◌≡◌, sym, ap, ◌∙◌}
+use mathlib.Core.Path.{sym, ◌∙◌}
 use native.Mathlib.Omega.{arith}
 use borrow.Author.Tests.{eq-eqb, ne_eqb}
 use lib.IntN.{nat_abs}
-use Rattle.records.proofs.Laws.{half_fits}
-use Rattle.names.specs.Names as kinds
-use Rattle.sheet_texts.specs.Names as names
-use Rattle.day_texts.proofs.Laws.{minus_is}
+use Rattle.pen.proofs.Pours.{none, ◌next◌, same}
+use Rattle.time_texts.proofs.Signs.{minus, size}
 use Rattle.date_texts.proofs.near_weekday.Goals as goal
 
-pub returns-then-n-eq0 : goal.returns-then-n-eq0
-returns-then-n-eq0 c = λ v. let n : nat_abs c.args.x ≡ 0 = sym (c.size-n.ensures ∙ ap nat_abs (half_fits c.args.x c.ranges.x.sfits)) ∙ c.if-n-eq0.true in rw (eq-eqb (nat_abs c.args.x) 0 n)
+pub returns-else-n-ne0 : goal.returns-else-n-ne0
+returns-else-n-ne0 c = same (none c.args.p.now) (λ v. rw (eq-eqb (nat_abs c.args.x) 0 (sym (size c.ranges.x c.unsigned_abs-n.ensures.value) ∙ c.if-n-ne0.false)))
 
 pub overflow_cast-n : goal.overflow_cast-n
-overflow_cast-n c = let n : c.size-n.result ≡ nat_abs c.args.x = c.size-n.ensures ∙ ap nat_abs (half_fits c.args.x c.ranges.x.sfits) in omega arith
+overflow_cast-n c = omega (arith, size c.ranges.x c.unsigned_abs-n.ensures.value)
 
 pub weekday-requires : goal.weekday-requires
-weekday-requires c = let n : c.size-n.result ≡ nat_abs c.args.x = c.size-n.ensures ∙ ap nat_abs (half_fits c.args.x c.ranges.x.sfits) in record { le_n = search rules; n_bound = search rules }
+weekday-requires c = record { le_n = omega arith; n_bound = omega (arith, size c.ranges.x c.unsigned_abs-n.ensures.value) }
 
-pub returns : goal.returns
-returns c = λ v. let n : c.size-n.result ≡ nat_abs c.args.x = c.size-n.ensures ∙ ap nat_abs (half_fits c.args.x c.ranges.x.sfits) in
-    let k = rw (half_fits c.args.x c.ranges.x.sfits, minus_is c.args.x) at (c.plus_or_minus.ensures (names.name kinds.weekday (nat_abs c.args.x) v)) in
-    let m = rw n at (c.weekday.ensures v) in
-    rw (ne_eqb (nat_abs c.args.x) 0 (λ e. c.if-n-eq0.false (n ∙ e))) (k ∙ m)
+pub returns-then-n-ne0 : goal.returns-then-n-ne0
+returns-then-n-ne0 c =
+    let n = size c.ranges.x c.unsigned_abs-n.ensures.value in
+    same ((rw (minus c.ranges.x) at c.plus_or_minus.ensures) next (rw n at c.weekday.ensures)) (λ v. rw (ne_eqb (nat_abs c.args.x) 0 (λ e. c.if-n-ne0.true (n ∙ e))))

@@ -1,10 +1,7 @@
-use Prim.Native.Nat.{ℕ}
-use mathlib.Core.List.{List, ◌∷◌}
-use mathlib.Core.Path.{◌∙◌}
-use Rattle.sheet_texts.specs.Numbers.{four}
 use Rattle.sheet_texts.specs.Dates as texts
+use Rattle.pen.proofs.Pours.{these, ◌next◌}
 use Rattle.date_texts.proofs.years.Goals as goal
 
 pub returns : goal.returns
 unfolding texts.years
-returns c = λ v. let rest : List ℕ = four c.args.r.last (texts.step c.args.r.step v) in c.four.ensures (45 ∷ rest) ∙ c.put.ensures rest ∙ c.four-q.ensures (texts.step c.args.r.step v) ∙ c.step.ensures v
+returns c = c.four.ensures next these c.put.ensures next c.four-2.ensures next c.step.ensures

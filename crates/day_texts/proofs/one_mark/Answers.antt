@@ -1,23 +1,15 @@
-use mathlib.Core.Bool.{true, false}
-use mathlib.Core.Path.{◌≡◌, sym, ap, ◌∙◌}
-use lib.IntN.{nat_abs}
-use Rattle.records.proofs.Laws.{half_fits}
-use Rattle.sheet_texts.specs.Numbers.{is_minus, number}
+use mathlib.Core.Path.{sym, ◌∙◌}
 use Rattle.sheet_texts.specs.Days as texts
-use Rattle.day_texts.proofs.Laws.{minus_is}
+use Rattle.pen.proofs.Pours.{these, ◌next◌, same}
+use Rattle.time_texts.proofs.Signs.{minus, size}
 use Rattle.day_texts.proofs.one_mark.Goals as goal
-
-pub returns-then-x-lt0 : goal.returns-then-x-lt0
-unfolding texts.one_mark
-returns-then-x-lt0 c = λ v.
-    let n : c.size-n.result ≡ nat_abs c.args.x = c.size-n.ensures ∙ ap nat_abs (half_fits c.args.x c.ranges.x.sfits) in
-    let e : is_minus c.args.x ≡ true = sym (minus_is c.args.x) ∙ (rw (half_fits c.args.x c.ranges.x.sfits) at c.if-x-lt0.true) in
-    let m = rw n at (c.number.ensures v) in
-    rw e (c.put.ensures (number (nat_abs c.args.x) v) ∙ m)
+use Rattle.day_texts.proofs.one_mark.Goals.{then-x-lt0, else-x-lt0}
 
 pub returns : goal.returns
 unfolding texts.one_mark
-returns c = λ v.
-    let n : c.size-n.result ≡ nat_abs c.args.x = c.size-n.ensures ∙ ap nat_abs (half_fits c.args.x c.ranges.x.sfits) in
-    let e : is_minus c.args.x ≡ false = sym (minus_is c.args.x) ∙ (rw (half_fits c.args.x c.ranges.x.sfits) at c.if-x-lt0.false) in
-    rw e (rw n at (c.number-2.ensures v))
+returns c =
+    let n = rw (size c.ranges.x c.unsigned_abs.ensures.value) at c.number.ensures in
+    elim c.if-x-lt0.branch [
+      | then-x-lt0 w ↦ same (these w.put.ensures next (rw w.p-is at n)) (λ v. rw (sym (minus c.ranges.x) ∙ w.if-x-lt0.true))
+      | else-x-lt0 w ↦ same (rw w.p-is at n) (λ v. rw (sym (minus c.ranges.x) ∙ w.if-x-lt0.false))
+    ]

@@ -1,32 +1,8 @@
-use mathlib.Core.Path.{◌≡◌}
-use native.Mathlib.Omega.{arith}
 use Rattle.sheet_texts.specs.Names as names
+use Rattle.pen.proofs.Pours.{these}
+use Rattle.day_texts.proofs.Laws.{weekday_name}
 use Rattle.day_texts.proofs.weekday.Goals as goal
 
-pub returns-in-1 : goal.returns-in-1
-unfolding names.letters_in names.name names.written
-returns-in-1 c = λ v. rw c.in-1.is (c.put_all.ensures v)
-
-pub returns-in-2 : goal.returns-in-2
-unfolding names.letters_in names.name names.written
-returns-in-2 c = λ v. rw c.in-2.is (c.put_all-in-2.ensures v)
-
-pub returns-in-3 : goal.returns-in-3
-unfolding names.letters_in names.name names.written
-returns-in-3 c = λ v. rw c.in-3.is (c.put_all-in-3.ensures v)
-
-pub returns-in-4 : goal.returns-in-4
-unfolding names.letters_in names.name names.written
-returns-in-4 c = λ v. rw c.in-4.is (c.put_all-in-4.ensures v)
-
-pub returns-in-5 : goal.returns-in-5
-unfolding names.letters_in names.name names.written
-returns-in-5 c = λ v. rw c.in-5.is (c.put_all-in-5.ensures v)
-
-pub returns-in-6 : goal.returns-in-6
-unfolding names.letters_in names.name names.written
-returns-in-6 c = λ v. rw c.in-6.is (c.put_all-in-6.ensures v)
-
-pub returns-in_default : goal.returns-in_default
-unfolding names.letters_in names.name names.written
-returns-in_default c = λ v. let e : c.args.n ≡ 7 = omega arith in rw e (c.put_all-in_default.ensures v)
+pub returns : goal.returns
+unfolding names.name
+returns c = these (rw (c.from.ensures, weekday_name c.args.n c.requires.le_n c.requires.n_bound) at c.put_all.ensures)

@@ -1,35 +1,30 @@
 use borrow.Author.Rules.{rules}
-use Prim.Native.Nat.{ℕ}
-use mathlib.Core.List.{List, ◌∷◌}
 use mathlib.Core.Path.{sym, ◌∙◌}
 use borrow.Author.Tests.{eq-eqb, ne_eqb}
-use Rattle.records.proofs.Laws.{half_fits}
-use Rattle.names.specs.Names as kinds
-use Rattle.sheet_texts.specs.Names as names
+use mir.Syntax.{w16}
+use mir.Facts.{to_z-of_z}
 use Rattle.sheet_texts.specs.Days as texts
+use Rattle.pen.proofs.Pours.{these, ◌next◌, same}
 use Rattle.day_texts.proofs.Laws.{weekdays_range}
 use Rattle.day_texts.proofs.weekdays.Goals as goal
 
-pub weekday-q-requires : goal.weekday-q-requires
-unfolding texts.weekdays
-weekday-q-requires c = let both_told = (weekdays_range c.args.r c.requires).0 in record { le_n = both_told.0; n_bound = both_told.1 }
-
 pub weekday-requires : goal.weekday-requires
-unfolding texts.weekdays
-weekday-requires c = let both_told = (weekdays_range c.args.r c.requires).1 in record { le_n = both_told.0; n_bound = both_told.1 }
+weekday-requires c = let range = (weekdays_range c.args.r c.requires).0 in record { le_n = range.0; n_bound = range.1 }
+
+pub weekday-requires-then-r : goal.weekday-requires-then-r
+weekday-requires-then-r c = let range = (weekdays_range c.args.r c.requires).1 in record { le_n = range.0; n_bound = range.1 }
 
 pub returns-then-r : goal.returns-then-r
 unfolding texts.weekdays
-returns-then-r c = λ v. let rest : List ℕ = names.name kinds.weekday c.args.r.last v in
-    rw (ne_eqb c.args.r.first c.args.r.last c.if-r.true) (c.weekday-q.ensures (45 ∷ rest) ∙ c.put.ensures rest ∙ c.weekday.ensures v)
+returns-then-r c = same (c.weekday.ensures next these c.put.ensures next c.weekday-then-r.ensures) (λ v. rw (ne_eqb c.args.r.first c.args.r.last c.if-r.true))
 
-pub returns-then-is_plain : goal.returns-then-is_plain
+pub returns-then-not-is_plain : goal.returns-then-not-is_plain
 unfolding texts.weekdays
-returns-then-is_plain c = λ v. rw (eq-eqb c.args.r.first c.args.r.last c.if-r.false, sym c.is_plain.ensures ∙ c.if-is_plain.true) (c.weekday-q.ensures v)
+returns-then-not-is_plain c =
+    let days = rw (to_z-of_z {w = w16} {z = c.args.r.days} (search rules)) at c.day_offset.ensures in
+    same (c.weekday.ensures next these c.put-then-not-is_plain.ensures next c.all_marks.ensures next these c.put-then-not-is_plain-2.ensures next days)
+    (λ v. rw (eq-eqb c.args.r.first c.args.r.last c.if-r.false, sym c.is_plain.ensures ∙ c.if-not-is_plain.true))
 
-pub returns : goal.returns
+pub returns-else-not-is_plain : goal.returns-else-not-is_plain
 unfolding texts.weekdays
-returns c = λ v. let rest : List ℕ = texts.day_offset c.args.r.days v in
-    let m : List ℕ = texts.marks (texts.all_marks c.args.r.starts c.args.r.ends) (93 ∷ rest) in
-    let d = rw (half_fits c.args.r.days (search rules)) at (c.day_offset.ensures v) in
-    rw (eq-eqb c.args.r.first c.args.r.last c.if-r.false, sym c.is_plain.ensures ∙ c.if-is_plain.false) (c.weekday-q.ensures (91 ∷ m) ∙ c.put-2.ensures m ∙ c.all_marks-s.ensures (93 ∷ rest) ∙ c.put-3.ensures rest ∙ d)
+returns-else-not-is_plain c = same c.weekday.ensures (λ v. rw (eq-eqb c.args.r.first c.args.r.last c.if-r.false, sym c.is_plain.ensures ∙ c.if-not-is_plain.false))

@@ -1,13 +1,15 @@
-use Prim.Native.Nat.{◌-◌, ◌<◌}
 use mathlib.Core.Bool.{true}
 use mathlib.Core.Path.{◌≡◌}
+use Prim.Native.Nat.{◌-◌, ◌<◌}
+use Rattle.lent_slots.specs.Lent.{lent}
 use Rattle.tables.specs.Tables.{is_head}
 use Rattle.lent_slots.specs.Slots.{slots, record_at}
 use Rattle.table_rules.specs.Rules.{rules_up, rules_in, rule_at}
 use Rattle.table_rules.proofs.rule_items.Given as goal
 
-abbrev pub invariant-loop-slot : goal.invariant-loop-slot
-invariant-loop-slot l = (l.slot < slots (l.words, l.bytes) → is_head (record_at (l.words, l.bytes) l.slot) ≡ true) × (rule_at l.k (rules_in (l.words, l.bytes)) ≡ rule_at l.left (rules_up (l.words, l.bytes) l.slot))
-
-abbrev pub decreases-loop-slot : goal.decreases-loop-slot
-decreases-loop-slot l = l.n - l.slot
+abbrev pub invariant-loop : goal.invariant-loop
+invariant-loop l =
+    (l.head < 18446744073709551615)
+    × (l.head < slots (lent l.table))
+    × (is_head (record_at (lent l.table) l.head) ≡ true)
+    × (rule_at l.k (rules_in (lent l.table)) ≡ rule_at (l.k - l.counter) (rules_up (lent l.table) l.head))

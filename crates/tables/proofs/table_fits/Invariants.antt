@@ -1,11 +1,8 @@
 use mathlib.Core.Path.{◌≡◌}
-use Prim.Native.Nat.{◌-◌, ◌≤◌}
-use Rattle.lent_slots.specs.Slots as slots
-use Rattle.tables.specs.Tables as tables
+use Rattle.lent_slots.specs.Lent.{lent}
+use Rattle.tables.specs.Tables.{table_fits}
+use Rattle.tables.proofs.Tables.{fits_from}
 use Rattle.tables.proofs.table_fits.Given as goal
 
 abbrev pub invariant-loop-slot : goal.invariant-loop-slot
-invariant-loop-slot l = (l.slot ≤ l.n) × (tables.goes_on 0 (slots.records_from (l.words, l.bytes) l.n 0) ≡ tables.goes_on l.left (slots.records_from (l.words, l.bytes) (l.n - l.slot) l.slot))
-
-abbrev pub decreases-loop-slot : goal.decreases-loop-slot
-decreases-loop-slot l = l.n - l.slot
+invariant-loop-slot l = table_fits (lent l.table) ≡ fits_from (lent l.table) l.n l.slot l.left

@@ -1,4 +1,3 @@
--- ---- where the loop stands: at its test, and where the byte there is no character by itself
 use Prim.Native.Nat.{◌-◌}
 use mathlib.Core.Path.{◌≡◌}
 use lib.ListN.{length}
@@ -6,8 +5,8 @@ use Rattle.utf8.specs.Letters.{letters}
 use Rattle.utf8.proofs.letters.Given as goal
 
 -- the characters from here on end where all of them do
-abbrev pub invariant-loop-at : goal.invariant-loop-at
-invariant-loop-at l = letters l.s l.initial.at ≡ letters l.s l.at
+abbrev pub invariant-loop-next : goal.invariant-loop-next
+invariant-loop-next l = letters l.s l.initial.c.at ≡ letters l.s l.c.at
 
-abbrev pub decreases-loop-at : goal.decreases-loop-at
-decreases-loop-at l = length l.s - l.at
+abbrev pub decreases-loop-next : goal.decreases-loop-next
+decreases-loop-next l = length l.s - l.c.at

@@ -1,40 +1,26 @@
 use Prim.Native.Nat.{ℕ}
 use mathlib.Core.List.{List}
-use mathlib.Core.Path.{◌≡◌, ap}
+use mathlib.Core.Path.{◌≡◌, refl, sym}
+use borrow.Author.Tests.{ne_eqb}
+use lib.Dec.{eqb}
+use lib.ListN.{get_or}
 use Rattle.names.specs.Read.{none}
 use Rattle.names.specs.Texts.{byte}
-use Rattle.names.proofs.Facts.{called, went, said}
-use Rattle.days.specs.Weekdays.{Weekday, bracketed, until_weekday, with_entries, narrow_after}
-use Rattle.days.specs.Seen.{seen_weekdays}
+use Rattle.names.proofs.Laws.{one_is}
+use Rattle.days.specs.Weekdays.{Weekday, again, plain, bracketed, until_weekday, with_entries, narrow_after, weekday_meaning}
 use Rattle.days.proofs.weekdays.narrow_after.Goals as goal
+use Rattle.days.proofs.weekdays.narrow_after.Goals.{then-byte-eq91+in_default-with_entries, else-byte-eq91}
 
 -- where no bracket stands, no entries do
-no_entries : (first : Weekday) (s : List ℕ) (i : ℕ) → byte 91 s i ≡ none → with_entries first s i ≡ none
-unfolding with_entries bracketed
-no_entries first s i e = rw (e)
+no_entries : (first : Weekday) (s : List ℕ) (i : ℕ) {b : ℕ} → b ≡ get_or s i 0 → (b ≡ 91 → ⊥) → with_entries first s i ≡ none
+unfolding with_entries bracketed byte
+no_entries first s i e h = rw (one_is (eqb 91) refl s i e (ne_eqb 91 _ (λ q. h (sym q))))
 
-pub returns-in-Got : goal.returns-in-Got
+pub returns : goal.returns
 unfolding narrow_after until_weekday
-returns-in-Got c = rw ((called c.last_weekday-name.ensures c.in-Got.is).is, c.plain-range.ensures)
-
-pub returns-in_default-left : goal.returns-in_default-left
-unfolding narrow_after until_weekday
-returns-in_default-left c = rw ((called c.last_weekday-name.ensures c.in_default.is).is, no_entries (c.args.first, c.args.odd) c.args.s.now c.args.c.at (went c.sign-left.ensures c.in_default-left.is).is, c.plain-bare.ensures)
-
-pub returns-in-Got-marked : goal.returns-in-Got-marked
-unfolding narrow_after until_weekday
-returns-in-Got-marked c = rw (
-  (called c.last_weekday-name.ensures c.in_default.is).is,
-  (said c.with_entries-marked.ensures (ap seen_weekdays
-      c.in-Got-marked.is)).is,
-  c.weekday_meaning-judged.ensures,
-)
-
-pub returns-in-Missing : goal.returns-in-Missing
-unfolding narrow_after until_weekday
-returns-in-Missing c = rw (
-  (called c.last_weekday-name.ensures c.in_default.is).is,
-  (said c.with_entries-marked.ensures (ap seen_weekdays
-      c.in-Missing.is)).is,
-  c.plain-one.ensures,
-)
+returns c =
+    let first : Weekday = (c.args.first.value, c.args.first.odd) in
+    let marks : with_entries first c.args.s.now c.args.c.at ≡ none =
+    elim c.if-byte-eq91.branch [ then-byte-eq91+in_default-with_entries w ↦ w.in_default-with_entries.ensures | else-byte-eq91 w ↦ no_entries _ _ _ c.byte.ensures w.if-byte-eq91.false ] in
+    let alone : c.plain-2.result ≡ weekday_meaning (plain first (again first)) = cc in
+    rw (c.in_default.ensures.is, marks, alone)

@@ -1,15 +1,17 @@
-use mathlib.Core.Path.{◌∙◌}
-use Rattle.sheet_texts.specs.Items as items
+use Rattle.pen.proofs.Pours.{these, ◌next◌}
 use Rattle.item_texts.proofs.texts.put_after.Goals as goal
 
-pub returns-in-Comma : goal.returns-in-Comma
-returns-in-Comma c = λ v. rw c.in-Comma.is (c.put.ensures (items.item_text c.args.a v) ∙ c.item.ensures v)
+pub returns-in-Some-Comma : goal.returns-in-Some-Comma
+returns-in-Some-Comma c =
+    let comma = rw c.in-Some-Comma.is at c.in-Some-Comma.field-0-is in
+    rw (c.in-Some-Comma.is, comma) (these c.put.ensures next c.item.ensures)
 
-pub returns-in-Colon : goal.returns-in-Colon
-returns-in-Colon c = λ v. rw c.in-Colon.is (c.put_all.ensures (items.full c.args.a v) ∙ c.put_first.ensures v)
+pub returns-in-Some-Colon : goal.returns-in-Some-Colon
+returns-in-Some-Colon c =
+    let colon = rw c.in-Some-Colon.is at c.in-Some-Colon.field-0-is in
+    rw (c.in-Some-Colon.is, colon) (these c.put_all.ensures next c.put_first.ensures)
 
-pub returns-in-Blank : goal.returns-in-Blank
-returns-in-Blank c = λ v. rw c.in-Blank.is (c.put-in-Blank.ensures (items.full c.args.a v) ∙ c.put_first-in-Blank.ensures v)
-
-pub returns-in-No : goal.returns-in-No
-returns-in-No c = λ v. rw c.in-No.is
+pub returns-in-Some-Blank : goal.returns-in-Some-Blank
+returns-in-Some-Blank c =
+    let blank = rw c.in-Some-Blank.is at c.in-Some-Blank.field-0-is in
+    rw (c.in-Some-Blank.is, blank) (these c.put-in-Some-Blank.ensures next c.put_first-in-Some-Blank.ensures)

@@ -1,11 +1,12 @@
-use mathlib.Core.Path.{sym, ap, ◌∙◌}
-use Rattle.sheet_texts.specs.Items as items
-use Rattle.item_texts.specs.Joints as joints
-use Rattle.item_texts.proofs.Laws.{full_word, full_plain}
+use Rattle.sheet_texts.specs.Names as names
+use Rattle.pen.proofs.Pours.{these, ◌next◌}
+use Rattle.item_texts.proofs.Laws.{full_plain}
 use Rattle.item_texts.proofs.texts.put_first.Goals as goal
-
-pub returns-then-has_word : goal.returns-then-has_word
-returns-then-has_word c = λ v. let w = sym (c.has_word.ensures ∙ ap joints.has_word c.sort_of.ensures) ∙ c.if-has_word.true in rw (full_word c.args.a w v) (c.put_all.ensures (items.item_text c.args.a v) ∙ c.item.ensures v)
+use Rattle.item_texts.proofs.texts.put_first.Goals.{in-Weeks, in_default}
 
 pub returns : goal.returns
-returns c = λ v. let w = sym (c.has_word.ensures ∙ ap joints.has_word c.sort_of.ensures) ∙ c.if-has_word.false in rw (full_plain c.args.a w v) (c.item-2.ensures v)
+unfolding names.letters_in names.name names.written
+returns c = elim c.match-a.branch [
+  | in-Weeks w ↦ rw w.in-Weeks.is (these w.put_all.ensures next (rw (w.p-is, w.in-Weeks.is) at c.item.ensures))
+  | in_default w ↦ rw (full_plain c.args.a w.in_default.not-Weeks) (rw w.p-is at c.item.ensures)
+]

@@ -1,19 +1,13 @@
-use Prim.Native.Nat.{◌+◌, ◌*◌, ◌-◌, ◌≤◌, ◌<◌}
-use mathlib.Core.Bool.{true}
-use mathlib.Core.Path.{◌≡◌}
-use lib.ListN.{length}
-use Rattle.tables.specs.Tables.{is_head}
-use Rattle.lent_slots.specs.Slots.{slots, record_at}
-use Rattle.table_rules.specs.Rules.{rules_up, rules_in}
+use Rattle.std.proofs.Common.{◌+◌, ◌*◌, ◌≤◌, ◌≡◌, length}
+use Rattle.std.specs.Iterator.Adapters.{enumerate_source, enumerate_count}
 use Rattle.table_rules.specs.Numbers.{written}
 use Rattle.months.specs.Entries.{entries_of}
+use Rattle.months.specs.Walk.{rules_left}
 use Rattle.months.proofs.entries.fill_entries.Given as goal
 
-abbrev pub invariant-loop-slot : goal.invariant-loop-slot
-invariant-loop-slot l = (l.slot < slots (l.words, l.bytes) → is_head (record_at (l.words, l.bytes) l.slot) ≡ true)
-    × ((length l.list ≡ length l.initial.list)
-    × (((l.i + length (rules_up (l.words, l.bytes) l.slot)) * 8 ≤ length l.initial.list)
-    × (written l.initial.list (l.first * 2) (entries_of l.base (rules_in (l.words, l.bytes))) ≡ written l.list (l.i * 2) (entries_of l.base (rules_up (l.words, l.bytes) l.slot)))))
-
-abbrev pub decreases-loop-slot : goal.decreases-loop-slot
-decreases-loop-slot l = l.n - l.slot
+abbrev pub invariant-loop-i : goal.invariant-loop-i
+invariant-loop-i l = record {
+  same_length : length l.list ≡ length l.initial.list;
+  room : (l.first + enumerate_count l.i-iterator + length (rules_left (enumerate_source l.i-iterator))) * 8 ≤ length l.initial.list;
+  written_so_far : written l.initial.list (l.first * 2) (entries_of l.base (rules_left l.fn.rules)) ≡ written l.list ((l.first + enumerate_count l.i-iterator) * 2) (entries_of l.base (rules_left (enumerate_source l.i-iterator)));
+}

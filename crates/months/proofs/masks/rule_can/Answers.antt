@@ -1,42 +1,16 @@
-use Prim.Native.Nat.{suc, ◌≤◌, ◌<◌}
-use native.Mathlib.Numerals.{add-one}
-use native.Mathlib.Omega.{arith}
-use mathlib.Core.Bool.{true, false}
-use mathlib.Core.Path.{◌≡◌, refl, sym, ap, ◌∙◌}
-use borrow.Author.Rules.{rules}
-use Rattle.lent_slots.specs.Tables.{Tables}
-use Rattle.tables.specs.Tables.{is_head}
-use Rattle.lent_slots.specs.Slots.{slots, record_at}
-use Rattle.records.specs.Told.{candidate}
-use Rattle.table_rules.specs.Rules.{items_up}
-use Rattle.table_rules.proofs.Heads.{items_head, items_item, items_end}
-use Rattle.months.specs.Seen.{with_item, with_items}
-use Rattle.months.specs.declared.Seen.{Seen}
-use Rattle.months.proofs.Laws.{rule_seen, seen_first}
+use Rattle.std.proofs.Common.{◌≡◌, ◌||◌, eqb, map, ap, rules}
+use Rattle.std.specs.List.{reduce, filter}
+use Rattle.std.proofs.lemmas.Iterator.{YieldsList-from_map}
+use Rattle.std.proofs.lemmas.Iterator.Consumers.{YieldsList-at, YieldsList-from_filter, YieldsList-from_first}
+use Rattle.touched.specs.Kinds.{kind_of}
+use Rattle.touched.specs.Walk.{items_left}
+use Rattle.months.specs.Months.{item_can}
+use Rattle.months.proofs.Laws.{rule_asked, reduced}
 use Rattle.months.proofs.masks.rule_can.Goals as goal
 
-pub loop-slot-init : goal.loop-slot-init
-loop-slot-init c = refl
-
-pub record_at-w-requires : goal.record_at-w-requires
-record_at-w-requires c = rw (← c.slots-n.ensures) (search rules)
-
-pub returns-then-is_head : goal.returns-then-is_head
-returns-then-is_head c = let t : Tables = (c.args.words.now, c.args.bytes.now) in
-    let h : c.loop-slot.slot < slots t = omega (arith, c.slots-n.ensures) in
-    let e : is_head (record_at t c.loop-slot.slot) ≡ true = ap is_head (sym c.record_at-w.ensures) ∙ sym c.is_head.ensures ∙ c.if-is_head.true in
-    rule_seen c.args.m (items_up t c.args.from) (items_up t c.loop-slot.slot) c.loop-slot.found c.loop-slot.invariant (items_head t c.loop-slot.slot h e) c.ended.ensures
-
-pub loop-slot-preserved : goal.loop-slot-preserved
-loop-slot-preserved c = let t : Tables = (c.args.words.now, c.args.bytes.now) in
-    let h : c.loop-slot.slot < slots t = omega (arith, c.slots-n.ensures) in
-    let e : is_head (record_at t c.loop-slot.slot) ≡ false = ap is_head (sym c.record_at-w.ensures) ∙ sym c.is_head.ensures ∙ c.if-is_head.false in
-    let g : c.with-found.result ≡ with_item c.args.m c.loop-slot.found (candidate (record_at t c.loop-slot.slot)) =
-    c.with-found.ensures ∙ ap (with_item c.args.m c.loop-slot.found) (c.item_of.ensures ∙ ap candidate c.record_at-w.ensures)
-    in c.loop-slot.invariant ∙ ap (with_items c.args.m c.loop-slot.found) (items_item t c.loop-slot.slot h e) ∙ seen_first c.args.m c.loop-slot.found (candidate (record_at t c.loop-slot.slot)) (items_up t (suc c.loop-slot.slot))
-    ∙ ap (λ (x : Seen). with_items c.args.m x (items_up t (suc c.loop-slot.slot))) (sym g) ∙ ap (λ j. with_items c.args.m c.with-found.result (items_up t j)) (sym (add-one c.loop-slot.slot))
-
 pub returns : goal.returns
-returns c = let t : Tables = (c.args.words.now, c.args.bytes.now) in
-    let h : slots t ≤ c.loop-slot.slot = omega (arith, c.slots-n.ensures) in
-    rule_seen c.args.m (items_up t c.args.from) (items_up t c.loop-slot.slot) c.loop-slot.found c.loop-slot.invariant (items_end t c.loop-slot.slot h) c.ended-2.ensures
+returns c =
+    let l = items_left c.args.items in
+    let e : c.reduce.result ≡ reduce (λ x y. x || y) (map (λ a. item_can a c.args.m) (filter (λ a. eqb (kind_of a) 2) l)) =
+    reduced _ (λ x y. x || y) _ (λ a x b q k. search rules) c.reduce.result c.reduce.ensures.ran (YieldsList-from_map _ (λ a. item_can a c.args.m) (YieldsList-at c.map.ensures.source (YieldsList-from_filter _ (λ a. eqb (kind_of a) 2) (YieldsList-from_first (λ x. x) items_left l (ap items_left c.filter.ensures.source)) c.filter.ensures.closure (λ x b q k. search rules))) c.map.ensures.closure (λ x b q k. search rules)) in
+    rw (c.unwrap_or.ensures, e) (rule_asked c.args.m l)

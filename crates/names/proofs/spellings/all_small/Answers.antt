@@ -1,21 +1,11 @@
--- What was passed is small letters.
-use native.Mathlib.Omega.{arith}
-use native.Mathlib.Numerals.{add-one}
-use mathlib.Core.Path.{refl, sym, ◌∙◌}
-use Rattle.names.proofs.Odd.{small_none, small_more, small_stop}
+use borrow.Author.Rules.{rules}
+use borrow.Author.Tests.{tests}
+use mathlib.Core.Path.{sym, ◌∙◌}
+use Rattle.std.proofs.lemmas.Iterator.{YieldsList-from_slice}
+use Rattle.std.proofs.lemmas.Iterator.Search.{all_from_yields_List}
+use Rattle.names.specs.Spellings.{is_small}
+use Rattle.names.proofs.Odd.{all_small_lem}
 use Rattle.names.proofs.spellings.all_small.Goals as goal
 
-pub loop-i-init : goal.loop-i-init
-loop-i-init c = refl
-
-pub bounds-s-i : goal.bounds-s-i
-bounds-s-i c = omega arith
-
-pub loop-i-preserved : goal.loop-i-preserved
-loop-i-preserved c = rw (add-one c.loop-i.i) (sym (small_more c.args.s.now c.loop-i.i c.args.to (omega arith) (omega arith) (sym c.is_small.ensures ∙ c.if-is_small.true)) ∙ c.loop-i.invariant)
-
-pub returns-else-is_small : goal.returns-else-is_small
-returns-else-is_small c = sym (small_stop c.args.s.now c.loop-i.i c.args.to (omega arith) (omega arith) (sym c.is_small.ensures ∙ c.if-is_small.false)) ∙ c.loop-i.invariant
-
 pub returns : goal.returns
-returns c = sym (small_none c.args.s.now c.loop-i.i c.args.to (omega arith)) ∙ c.loop-i.invariant
+returns c = all_from_yields_List is_small _ _ _ c.all.ensures.ran (YieldsList-from_slice c.args.letters.now cc) (λ x b q k. search (rules, tests)) ∙ sym (all_small_lem c.args.letters.now)

@@ -1,31 +1,18 @@
-use mathlib.Core.Path.{sym, ◌∙◌}
-use Rattle.records.specs.Fits.{item_fits}
+use Rattle.std.proofs.Common.{rules}
+use mathlib.Core.Bool.{false}
+use mathlib.Core.Path.{◌≡◌}
+use Rattle.records.specs.Ranges.{between}
+use Rattle.records.specs.Fits.{is_kind, item_fits}
 use Rattle.records.proofs.fits.item_fits.Goals as goal
 
-pub returns-then-between : goal.returns-then-between
-unfolding item_fits
-returns-then-between c = rw (sym c.between.ensures ∙ c.if-between.true) c.years_fit.ensures
-
-pub returns-then-between-2 : goal.returns-then-between-2
-unfolding item_fits
-returns-then-between-2 c = rw ((sym c.between.ensures ∙ c.if-between.false), (sym c.between-2.ensures ∙ c.if-between-2.true)) c.months_fit.ensures
-
-pub returns-then-between-3 : goal.returns-then-between-3
-unfolding item_fits
-returns-then-between-3 c = rw ((sym c.between.ensures ∙ c.if-between.false), (sym c.between-2.ensures ∙ c.if-between-2.false), (sym c.between-3.ensures ∙ c.if-between-3.true)) c.dates_fit.ensures
-
-pub returns-then-between-4 : goal.returns-then-between-4
-unfolding item_fits
-returns-then-between-4 c = rw ((sym c.between.ensures ∙ c.if-between.false), (sym c.between-2.ensures ∙ c.if-between-2.false), (sym c.between-3.ensures ∙ c.if-between-3.false), (sym c.between-4.ensures ∙ c.if-between-4.true)) c.weeks_fit.ensures
-
-pub returns-then-between-5 : goal.returns-then-between-5
-unfolding item_fits
-returns-then-between-5 c = rw ((sym c.between.ensures ∙ c.if-between.false), (sym c.between-2.ensures ∙ c.if-between-2.false), (sym c.between-3.ensures ∙ c.if-between-3.false), (sym c.between-4.ensures ∙ c.if-between-4.false), (sym c.between-5.ensures ∙ c.if-between-5.true)) c.weekdays_fit.ensures
-
-pub returns-then-between-6 : goal.returns-then-between-6
-unfolding item_fits
-returns-then-between-6 c = rw ((sym c.between.ensures ∙ c.if-between.false), (sym c.between-2.ensures ∙ c.if-between-2.false), (sym c.between-3.ensures ∙ c.if-between-3.false), (sym c.between-4.ensures ∙ c.if-between-4.false), (sym c.between-5.ensures ∙ c.if-between-5.false), (sym c.between-6.ensures ∙ c.if-between-6.true)) c.holidays_fit.ensures
-
-pub returns : goal.returns
-unfolding item_fits
-returns c = rw ((sym c.between.ensures ∙ c.if-between.false), (sym c.between-2.ensures ∙ c.if-between-2.false), (sym c.between-3.ensures ∙ c.if-between-3.false), (sym c.between-4.ensures ∙ c.if-between-4.false), (sym c.between-5.ensures ∙ c.if-between-5.false), (sym c.between-6.ensures ∙ c.if-between-6.false), c.between-7.ensures, c.times_fit.ensures)
+pub returns-in_default : goal.returns-in_default
+unfolding item_fits between
+returns-in_default c =
+    let two : is_kind 2 c.args.w ≡ false = search rules in
+    let three : is_kind 3 c.args.w ≡ false = search rules in
+    let four : is_kind 4 c.args.w ≡ false = search rules in
+    let five : is_kind 5 c.args.w ≡ false = search rules in
+    let six : is_kind 6 c.args.w ≡ false = search rules in
+    let seven : is_kind 7 c.args.w ≡ false = search rules in
+    let eight : is_kind 8 c.args.w ≡ false = search rules in
+    rw (two, three, four, five, six, seven, eight)

@@ -1,22 +1,33 @@
-use borrow.Author.Rules.{rules}
-use Prim.Native.Nat.{◌+◌, ◌<◌}
-use mathlib.Core.Path.{◌≡◌, refl, sym, ap, ◌∙◌}
+use Rattle.std.proofs.Common.{rules}
+use Prim.Native.Nat.{◌+◌, ◌-◌}
 use mathlib.Core.Bool.{Bool, true, false, ◌&&◌}
+use mathlib.Core.Path.{◌≡◌, sym, ap, ◌∙◌}
 use native.Mathlib.Omega.{arith}
-use lib.ListN.{length, drop}
-use Rattle.records.specs.Ranges.{exactly}
+use Rattle.std.proofs.lemmas.List.{length-take}
+use lib.IntN.{pos}
+use lib.ListN.{length, drop, take, get_or}
+use Rattle.records.specs.Ranges.{between, exactly, up}
 use Rattle.records.specs.Fits.{word_at, unused}
-use Rattle.records.proofs.WordLaws.{unused_more, unused_last}
+use Rattle.records.proofs.Laws.{word_fits}
+use Rattle.records.proofs.WordLaws.{unused_step, unused_last}
 use Rattle.records.proofs.fits.unused.Goals as goal
 
-pub loop-i-init : goal.loop-i-init
-loop-i-init c = (omega arith, refl)
+pub returns-then-x-ne0 : goal.returns-then-x-ne0
+unfolding between
+returns-then-x-ne0 c =
+    let n : length c.args.w ≡ 16 = search rules in
+    let z : exactly 0 (get_or (take (15 - c.args.k) (drop c.args.k c.args.w)) c.loop-x.x-index (pos 0)) ≡ false = search rules in
+    sym (c.loop-x.invariant ∙ unused_step c.args.w c.args.k c.loop-x.x-index n c.requires c.loop-x-test.true ∙ ap (λ (t : Bool). t && unused (drop (c.args.k + (c.loop-x.x-index + 1)) c.args.w)) z)
 
-pub returns-then-not-between : goal.returns-then-not-between
-returns-then-not-between c = let n : length c.args.w ≡ 16 = search rules in let h : c.loop-i.i < 15 = search rules in let z : exactly 0 (word_at c.args.w c.loop-i.i) ≡ false = sym c.between.ensures ∙ c.if-not-between.true in sym (c.loop-i.invariant.1 ∙ unused_more c.args.w c.loop-i.i n h ∙ ap (λ (t : Bool). t && unused (drop (c.loop-i.i + 1) c.args.w)) z)
-
-pub loop-i-preserved : goal.loop-i-preserved
-loop-i-preserved c = let n : length c.args.w ≡ 16 = search rules in let h : c.loop-i.i < 15 = search rules in let z : exactly 0 (word_at c.args.w c.loop-i.i) ≡ true = sym c.between.ensures ∙ c.if-not-between.false in (search rules, c.loop-i.invariant.1 ∙ unused_more c.args.w c.loop-i.i n h ∙ ap (λ (t : Bool). t && unused (drop (c.loop-i.i + 1) c.args.w)) z)
+pub loop-x-preserved : goal.loop-x-preserved
+unfolding between
+loop-x-preserved c =
+    let n : length c.args.w ≡ 16 = search rules in
+    let z : exactly 0 (get_or (take (15 - c.args.k) (drop c.args.k c.args.w)) c.loop-x.x-index (pos 0)) ≡ true = search rules in
+    c.loop-x.invariant ∙ unused_step c.args.w c.args.k c.loop-x.x-index n c.requires c.loop-x-test.true ∙ ap (λ (t : Bool). t && unused (drop (c.args.k + (c.loop-x.x-index + 1)) c.args.w)) z
 
 pub returns : goal.returns
-returns c = let n : length c.args.w ≡ 16 = search rules in let e : c.loop-i.i ≡ 15 = search rules in c.up.ensures ∙ sym (c.loop-i.invariant.1 ∙ ap (λ j. unused (drop j c.args.w)) e ∙ unused_last c.args.w n)
+returns c =
+    let n : length c.args.w ≡ 16 = search rules in
+    let e : c.args.k + c.loop-x.x-index ≡ 15 = omega (arith, length-take (15 - c.args.k) (drop c.args.k c.args.w)) in
+    c.up.ensures ∙ ap up (word_fits (word_at c.args.w 15) (search rules)) ∙ sym (c.loop-x.invariant ∙ ap (λ j. unused (drop j c.args.w)) e ∙ unused_last c.args.w n)

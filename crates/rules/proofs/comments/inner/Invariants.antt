@@ -1,13 +1,8 @@
-use Prim.Native.Nat.{◌-◌}
 use mathlib.Core.Path.{◌≡◌}
-use lib.ListN.{length}
 use Rattle.names.specs.Chain.{skip}
 use Rattle.utf8.specs.Letters.{is_inner}
 use Rattle.rules.proofs.comments.inner.Given as goal
 
 -- what is left to skip from here ends where all of it does
 abbrev pub invariant-loop-at : goal.invariant-loop-at
-invariant-loop-at l = skip is_inner l.s l.initial.at ≡ skip is_inner l.s l.at
-
-abbrev pub decreases-loop-at : goal.decreases-loop-at
-decreases-loop-at l = length l.s - l.at
+invariant-loop-at l = skip is_inner l.s l.c.at ≡ skip is_inner l.s l.at

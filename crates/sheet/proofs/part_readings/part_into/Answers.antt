@@ -8,22 +8,22 @@ use Rattle.parts.proofs.PartLaws.{begins_fits, end_fits}
 use Rattle.sheet.proofs.Readings.{part_long, part_nowhere, part_text}
 use Rattle.sheet.proofs.part_readings.part_into.Goals as goal
 
-pub returns-then-sheet-gt4096 : goal.returns-then-sheet-gt4096
-returns-then-sheet-gt4096 c = let tables : Tables = (c.args.words.now, c.args.bytes.now) in
-    ap (λ r. (r, tables)) c.part_refusal.ensures ∙ part_long c.args.m tables c.args.sheet.now c.args.place (c.args.room * 16) c.if-sheet-gt4096.true
+pub returns-then-sheet-gt-LONGEST : goal.returns-then-sheet-gt-LONGEST
+returns-then-sheet-gt-LONGEST c = let tables : Tables = (c.args.words.now, c.args.bytes.now) in
+    ap (λ r. (r, tables)) c.part_refusal.ensures ∙ part_long c.args.m tables c.args.sheet.now c.args.place (c.args.room * 16) c.if-sheet-gt-LONGEST.true
 
 pub slice_bounds-read_text-end : goal.slice_bounds-read_text-end
-slice_bounds-read_text-end c = sym (length-take-le c.part_end-e.result c.args.sheet.now (let told : c.part_end-e.result ≤ length c.args.sheet.now = omega (arith, c.part_end-e.ensures, end_fits c.args.sheet.now c.args.place (begins_fits c.args.sheet.now c.args.place (sym c.begins.ensures ∙ c.if-begins.true))) in told))
+slice_bounds-read_text-end c = sym (length-take-le c.part_end-e.result c.args.sheet.now (let told : c.part_end-e.result ≤ length c.args.sheet.now = omega (arith, c.part_end-e.ensures, end_fits c.args.sheet.now c.args.place (begins_fits c.args.sheet.now c.args.place (sym c.begins.ensures ∙ c.if-not-begins.false))) in told))
 
 pub read_text-a-requires : goal.read_text-a-requires
-read_text-a-requires c = omega (arith, length-take-le c.part_end-e.result c.args.sheet.now (let told : c.part_end-e.result ≤ length c.args.sheet.now = omega (arith, c.part_end-e.ensures, end_fits c.args.sheet.now c.args.place (begins_fits c.args.sheet.now c.args.place (sym c.begins.ensures ∙ c.if-begins.true))) in told), (let told : c.part_end-e.result ≤ length c.args.sheet.now = omega (arith, c.part_end-e.ensures, end_fits c.args.sheet.now c.args.place (begins_fits c.args.sheet.now c.args.place (sym c.begins.ensures ∙ c.if-begins.true))) in told))
+read_text-a-requires c = omega (arith, length-take-le c.part_end-e.result c.args.sheet.now (let told : c.part_end-e.result ≤ length c.args.sheet.now = omega (arith, c.part_end-e.ensures, end_fits c.args.sheet.now c.args.place (begins_fits c.args.sheet.now c.args.place (sym c.begins.ensures ∙ c.if-not-begins.false))) in told), (let told : c.part_end-e.result ≤ length c.args.sheet.now = omega (arith, c.part_end-e.ensures, end_fits c.args.sheet.now c.args.place (begins_fits c.args.sheet.now c.args.place (sym c.begins.ensures ∙ c.if-not-begins.false))) in told))
 
-pub returns-then-begins : goal.returns-then-begins
-returns-then-begins c = let its-text = rw c.part_end-e.ensures at c.read_text-a.ensures in
+pub returns : goal.returns
+returns c = let its-text = rw c.part_end-e.ensures at c.read_text-a.ensures in
     rw (c.with_next.ensures, c.part_end-e.ensures)
-    (part_text c.args.m (c.args.words.now, c.args.bytes.now) c.args.sheet.now c.args.place (c.args.room * 16) c.if-sheet-gt4096.false (sym c.begins.ensures ∙ c.if-begins.true) its-text)
+    (part_text c.args.m (c.args.words.now, c.args.bytes.now) c.args.sheet.now c.args.place (c.args.room * 16) c.if-sheet-gt-LONGEST.false (sym c.begins.ensures ∙ c.if-not-begins.false) its-text)
 
-pub returns-else-begins : goal.returns-else-begins
-returns-else-begins c = let tables : Tables = (c.args.words.now, c.args.bytes.now) in
-    let no_part = sym c.begins.ensures ∙ c.if-begins.false in
-    ap (λ r. (r, tables)) c.part_refusal-else-begins.ensures ∙ part_nowhere c.args.m tables c.args.sheet.now c.args.place (c.args.room * 16) c.if-sheet-gt4096.false no_part
+pub returns-then-not-begins : goal.returns-then-not-begins
+returns-then-not-begins c = let tables : Tables = (c.args.words.now, c.args.bytes.now) in
+    let no_part = sym c.begins.ensures ∙ c.if-not-begins.true in
+    ap (λ r. (r, tables)) c.part_refusal-then-not-begins.ensures ∙ part_nowhere c.args.m tables c.args.sheet.now c.args.place (c.args.room * 16) c.if-sheet-gt-LONGEST.false no_part

@@ -1,4 +1,4 @@
-use Prim.Native.Nat.{◌+◌, ◌-◌, ◌≤◌}
+use Prim.Native.Nat.{◌+◌}
 use mathlib.Core.List.{◌++◌}
 use mathlib.Core.Bool.{true}
 use mathlib.Core.Path.{◌≡◌}
@@ -7,7 +7,7 @@ use Rattle.tallies.specs.Sums.{plus, all_within}
 use Rattle.tallies.proofs.sums.raised.Given as goal
 
 abbrev pub invariant-loop-i : goal.invariant-loop-i
-invariant-loop-i l = (l.i ≤ length l.more) × (length l.s ≡ 34) × (take (l.at + l.i) l.s ≡ take (l.at + l.i) (plus l.t (replicate l.at 0 ++ l.more))) × (all_within (take (l.at + l.i) (plus l.t (replicate l.at 0 ++ l.more))) ≡ true)
-
-abbrev pub decreases-loop-i : goal.decreases-loop-i
-decreases-loop-i l = length l.more - l.i
+invariant-loop-i l =
+    (length l.s ≡ 34)
+    × (take (l.at + l.i) l.s ≡ take (l.at + l.i) (plus l.t (replicate l.at 0 ++ l.more)))
+    × (all_within (take (l.at + l.i) (plus l.t (replicate l.at 0 ++ l.more))) ≡ true)

@@ -4,8 +4,8 @@ use lib.ListN.{length}
 use Rattle.text_rules.proofs.Fills.{Turn}
 use Rattle.text_rules.proofs.rule.fill_pieces.Given as goal
 
-abbrev pub invariant-loop-a : goal.invariant-loop-a
-invariant-loop-a l = Turn l.m l.place l.separator l.wide l.slot l.s (l.initial.words, l.initial.bytes) l.initial.spot.stage l.initial.spot.at (l.words, l.bytes) l.judged l.n l.warned l.spot.stage l.spot.at
+abbrev pub invariant-loop-piece : goal.invariant-loop-piece
+invariant-loop-piece l = Turn l.m l.place l.separator l.start.comment l.slot l.s (l.initial.words, l.initial.bytes) l.initial.spot.stage l.initial.spot.at (l.words, l.bytes) l.judged l.n l.warned l.spot.stage l.spot.at
 
-abbrev pub decreases-loop-a : goal.decreases-loop-a
-decreases-loop-a l = length l.s - l.spot.at
+abbrev pub decreases-loop-piece : goal.decreases-loop-piece
+decreases-loop-piece l = length l.s - l.spot.at

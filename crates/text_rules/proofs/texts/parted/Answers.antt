@@ -1,11 +1,10 @@
-use mathlib.Core.Path.{ap, ◌∙◌}
+use Rattle.std.specs.Prelude.{Option}
+use Prim.Native.Nat.{ℕ}
 use Rattle.items.proofs.Quotes.{lack_is}
-use Rattle.rules.specs.Seen.{seen_next}
-use Rattle.rules.specs.declared.Next.{Next}
 use Rattle.text_rules.proofs.texts.parted.Goals as goal
 
-pub returns-in-Got : goal.returns-in-Got
-returns-in-Got c = rw (c.blanks-d.ensures, c.next_rule-next.ensures ∙ ap seen_next c.in-Got.is)
+pub returns-in-Some : goal.returns-in-Some
+returns-in-Some c = rw (c.blanks-d.ensures, c.in-Some.ensures)
 
-pub returns-in-Missing : goal.returns-in-Missing
-returns-in-Missing c = rw (c.blanks-d.ensures, c.next_rule-next.ensures ∙ ap seen_next c.in-Missing.is, lack_is Next _ _ c.missing-lack.result c.missing-lack.ensures)
+pub returns-in-None : goal.returns-in-None
+returns-in-None c = rw (c.blanks-d.ensures, c.in-None.ensures, lack_is (Option ℕ) _ _ c.missing.result c.missing.ensures)

@@ -1,9 +1,7 @@
-use Rattle.std.proofs.Common.{rules, [], ◌∷◌, ◌+◌, drop, get_or, add-one, drop-cons}
-use Rattle.prints.proofs.Writing.{less_left}
+use Rattle.std.proofs.Common.{sym}
+use Rattle.std.proofs.lemmas.List.{take_more}
+use Rattle.prints.proofs.Writing.{then, same}
 use Rattle.prints.proofs.pens.Pen.put_all.Goals as goal
 
-pub loop-i-preserved : goal.loop-i-preserved
-loop-i-preserved c =
-    let text = c.args.text.now in
-    let i = c.loop-i.i in
-    less_left (get_or text i 0 ∷ []) (drop (i + 1) text) (search rules) c.loop-i.invariant (rw (add-one, drop-cons text i 0 c.loop-i-test.true)) c.put-pen.ensures
+pub loop-b-preserved : goal.loop-b-preserved
+loop-b-preserved c = same (then c.loop-b.invariant c.put.ensures) (sym (take_more c.args.text.now c.loop-b.b-index 0 c.loop-b-test.true))

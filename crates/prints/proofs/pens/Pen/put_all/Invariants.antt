@@ -1,7 +1,7 @@
--- What is left of the text, written after what was, makes the whole.
-use Rattle.std.proofs.Common.{drop}
-use Rattle.prints.proofs.Writing.{Left}
+-- So much of the text is written.
+use Rattle.std.proofs.Common.{take}
+use Rattle.prints.specs.Pens.{Writes}
 use Rattle.prints.proofs.pens.Pen.put_all.Given as goal
 
-abbrev pub invariant-loop-i : goal.invariant-loop-i
-invariant-loop-i l = Left l.text l.fn.self.at l.fn.out l.pen.at l.out (drop l.i l.text)
+abbrev pub invariant-loop-b : goal.invariant-loop-b
+invariant-loop-b l = Writes (take l.b-index l.text) l.fn.self l.self

@@ -1,4 +1,0 @@
-use Rattle.c_calls.proofs.part_numbers.Goals as goal
-
-pub returns : goal.returns
-returns c = rw c.flag_of.ensures

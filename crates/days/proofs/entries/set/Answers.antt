@@ -1,7 +1,0 @@
-use Rattle.days.proofs.entries.set.Goals as goal
-
-pub returns-then-old : goal.returns-then-old
-returns-then-old c = rw c.if-old.true
-
-pub returns-else-old : goal.returns-else-old
-returns-else-old c = rw c.if-old.false c.within.ensures

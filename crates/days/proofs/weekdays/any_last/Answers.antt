@@ -1,8 +1,0 @@
-use Rattle.names.proofs.Facts.{called}
-use Rattle.days.proofs.weekdays.any_last.Goals as goal
-
-pub returns-in-Got : goal.returns-in-Got
-returns-in-Got c = rw (called c.last_weekday-name.ensures c.in-Got.is).is
-
-pub returns-in-Missing : goal.returns-in-Missing
-returns-in-Missing c = rw (called c.last_weekday-name.ensures c.in-Missing.is).is

@@ -1,4 +1,0 @@
-use Rattle.feed.proofs.answers.keep_answer.Goals as goal
-
-pub returns : goal.returns
-returns c = rw (c.keep_words.ensures, c.keep_bytes.ensures)

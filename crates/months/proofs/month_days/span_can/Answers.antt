@@ -1,7 +1,0 @@
-use Rattle.months.proofs.month_days.span_can.Goals as goal
-
-pub returns-then-a-b : goal.returns-then-a-b
-returns-then-a-b c = rw c.if-a-b.true
-
-pub returns : goal.returns
-returns c = rw c.if-a-b.false c.round.ensures

@@ -1,5 +1,0 @@
-use mathlib.Core.Path.{◌∙◌}
-use Rattle.touched.proofs.selectors.years_touch.Goals as goal
-
-pub returns : goal.returns
-returns c = c.decided.ensures ∙ rw c.stepped.ensures

@@ -1,0 +1,9 @@
+-- The items that are left of a rule.
+use Rattle.std.specs.Prelude.{List}
+use Rattle.lent_slots.specs.Lent.{lent}
+use Rattle.records.specs.declared.Item.{Item}
+use Rattle.table_rules.specs.Rules.{items_up}
+use Rattle.touched.specs.declared.Items.{Items}
+
+abbrev pub items_left : Items → List Item
+items_left s = items_up (lent s.table) s.slot
