@@ -1,4 +1,4 @@
--- No second answer meets the promise of a user's call, for each of the twenty-four: two that meet it are one.
+-- No second answer meets the promise of a user's call, for each of the twenty-six: two that meet it are one.
 use Prim.Native.Nat.{ℕ}
 use mathlib.Core.List.{List}
 use mathlib.Core.Path.{◌≡◌, sym, ◌∙◌}
@@ -37,7 +37,7 @@ part_one_answer m s p t = one
 pub part_bytes_one_answer : (m : Manner) (s : List ℕ) (p : ℕ) (t : List ℕ) {x y : PartAnswer × List ℕ} → x ≡ part_reading_bytes_by m s p t → y ≡ part_reading_bytes_by m s p t → x ≡ y
 part_bytes_one_answer m s p t = one
 
--- note_part: each of its three numbers
+-- note_part: which bytes, from where and to where
 pub note_part_one_answer : (sheet note : ℕ) (a n : ℤ) {x y : NotePart} → numbers_of x ≡ note_part sheet note a n → numbers_of y ≡ note_part sheet note a n → x ≡ y
 note_part_one_answer sheet note a n {x} {y} d e = same_part x y (one d e)
 
