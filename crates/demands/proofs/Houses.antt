@@ -15,6 +15,7 @@ use Rattle.rules.specs.Rules.{Rule}
 use Rattle.house.specs.Breaks.{rules_break}
 use Rattle.house.specs.Spans.{Break}
 use Rattle.names.specs.Refusals.{number}
+use Rattle.names.specs.declared.refusals.Reason.{Reason}
 use Rattle.names.specs.declared.refusals.Refusal.{Refusal}
 use Rattle.house.proofs.Profile.{exactly}
 use Rattle.text_rules.specs.Texts.{rules, records, warnings}
@@ -48,11 +49,11 @@ module _ (l : List Rule) (p : ℕ) where
   unbroken_same true e = same_refusal 10 p (omega arith)
   unbroken_same false e = record { accepted = λ _. (refl, keeps_to l ((exactly l).0 e)); accepts = λ _ _. refl; refuses = λ a. absurd (a refl) }
 
-  broken_same : (full : Bool) (r : Refusal) → rules_break l ≡ Some r → 0 < number r.reason → Same (refusal (number r.reason) r.place) (filled full)
+  broken_same : (full : Bool) (r : (Refusal Reason)) → rules_break l ≡ Some r → 0 < number r.reason → Same (refusal (number r.reason) r.place) (filled full)
   broken_same true r e h = record { accepted = λ a. absurd (omega arith); accepts = λ a. absurd (omega arith); refuses = λ _ b. absurd (b refl) }
   broken_same false r e h = record { accepted = λ a. absurd (omega arith); accepts = λ _ b. absurd (nowhere r (sym e ∙ (exactly l).1 (keeps_of l b))); refuses = λ a. absurd (a refl) }
     where
-      nowhere : (r : Refusal) → Some r ≡ None → ⊥
+      nowhere : (r : (Refusal Reason)) → Some r ≡ None → ⊥
       nowhere r e = cc
 
 module _ (s : List ℕ) (p n : ℕ) where

@@ -20,7 +20,7 @@ use Rattle.records.specs.Words.{Placed}
 use Rattle.items.proofs.Cut.{placed_moves}
 use Rattle.rules.specs.Rules.{Rule}
 use Rattle.rules.proofs.Cut.{rule_moves}
-use Rattle.house.specs.Spans.{allowed, in_order, span_break}
+use Rattle.house.specs.Spans.{allowed, in_order, span_break_as}
 use Rattle.house.specs.Breaks.{first_of, item_break, end_with, items_break, separator_break, rule_break, rules_break, judged_by}
 use Rattle.house.specs.Profile.{Each}
 use Rattle.house.specs.Spans.{Break, at}
@@ -154,7 +154,7 @@ first_moves d None b = refl
 first_moves d (Some r) b = refl
 
 item_break_moves : (d end : ℕ) (a : Item) (p : ℕ) → item_break end (a, d + p) ≡ break_moves d (item_break end (a, p))
-unfolding span_break
+unfolding span_break_as
 item_break_moves d end (Years r) p = refl
 item_break_moves d end (Months r) p = refl
 item_break_moves d end (Dates r) p = refl

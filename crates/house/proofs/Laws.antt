@@ -4,6 +4,7 @@ use mathlib.Core.Bool.{false}
 use mathlib.Core.List.{List, [], ◌∷◌}
 use mathlib.Core.Path.{◌≡◌, refl, sym, ◌∙◌}
 use Rattle.names.specs.declared.Manner.{Manner}
+use Rattle.names.specs.declared.refusals.Reason.{Reason}
 use Rattle.names.specs.declared.Manner.TheVariants.{First, Second, House}
 use Rattle.records.specs.declared.Time.{Time}
 use Rattle.records.specs.declared.Time.TheVariants.{Fixed, Dawn, Sunrise, Sunset, Dusk}
@@ -37,11 +38,11 @@ event_is (Sunset m) k = (refl, refl)
 event_is (Dusk m) k = (refl, refl)
 
 -- a judgement with no later break is the same
-pub same : (h : Judgement) → h ≡ record { first = first_of h.first None; end = h.end }
+pub same : (h : Judgement Reason) → h ≡ record { first = first_of h.first None; end = h.end }
 same h = rw (first_none h.first)
 
 -- items that are no times change nothing, in any manner
-pub other_item : (m : Manner) (h : Judgement) (a : Item) (p : ℕ) → ((x : Span) → a ≡ Times x → ⊥) → h ≡ with_item m h (a, p)
+pub other_item : (m : Manner) (h : Judgement Reason) (a : Item) (p : ℕ) → ((x : Span) → a ≡ Times x → ⊥) → h ≡ with_item m h (a, p)
 other_item First h a p k = refl
 other_item Second h a p k = refl
 other_item House h (Years r) p k = same h
@@ -65,7 +66,7 @@ judged_first Second a b = refl
 judged_first House a b = refl
 
 -- what is known after a list of items is what was known, and their first break
-pub items_first : (m : Manner) (l : List Placed) (h : Judgement) → (with_items m h l).first ≡ first_of h.first (judged_by m (items_break h.end l))
+pub items_first : (m : Manner) (l : List Placed) (h : Judgement Reason) → (with_items m h l).first ≡ first_of h.first (judged_by m (items_break h.end l))
 unfolding items_break
 items_first First [] h = sym (first_none h.first)
 items_first First (a ∷ l) h = items_first First l h

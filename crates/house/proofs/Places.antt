@@ -13,7 +13,7 @@ use Rattle.records.specs.declared.Item.{Item}
 use Rattle.records.specs.declared.Item.TheVariants.{Years, Months, Dates, Weeks, Weekdays, Holidays, Times}
 use Rattle.records.specs.Words.{Placed}
 use Rattle.rules.specs.Rules.{Rule}
-use Rattle.house.specs.Spans.{Break, at, allowed, in_order, span_break}
+use Rattle.house.specs.Spans.{Break, at, allowed, in_order, span_break_as}
 use Rattle.house.specs.Breaks.{first_of, item_break, end_with, items_break, separator_break, rule_break, rules_break, judged_by}
 use Rattle.house.specs.Profile.{Each}
 
@@ -35,7 +35,7 @@ module _ (P : ℕ → ℕ → Type 0) where
   first_broken (Some r) b h k = h
 
   item_broken : (end : ℕ) (a : Item) (p : ℕ) → OfItem (a, p) → Broken P (item_break end (a, p))
-  unfolding span_break
+  unfolding span_break_as
   item_broken end (Years r) p h = tt
   item_broken end (Months r) p h = tt
   item_broken end (Dates r) p h = tt

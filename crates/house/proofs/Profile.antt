@@ -14,7 +14,7 @@ use Rattle.records.specs.declared.Span.{Span}
 use Rattle.records.specs.declared.Item.TheVariants.{Years, Months, Dates, Weeks, Weekdays, Holidays, Times}
 use Rattle.records.specs.Words.{Placed}
 use Rattle.rules.specs.Rules.{Rule}
-use Rattle.house.specs.Spans.{Break, at, is_clock, minutes, is_never, of_clocks, is_plain, allowed, in_order, span_break}
+use Rattle.house.specs.Spans.{Break, at, is_clock, minutes, is_never, of_clocks, is_plain, allowed, in_order, span_break, span_break_as}
 use Rattle.house.specs.Breaks.{first_of, items_break, separator_break, rule_break, rules_break}
 use Rattle.house.specs.Profile.{Each, Spanned, Clock, Form, Forward, After, Rising, Keeps, Exactly}
 
@@ -78,7 +78,7 @@ neither (Some r) b e = cc
 
 -- a span's
 span_none : (end p : ℕ) (x : Span) → span_break end p x ≡ None → (allowed x ≡ true) × (in_order end x ≡ true)
-unfolding span_break
+unfolding span_break_as
 span_none end p x e = go (allowed x) (in_order end x) e
   where
     go : (a b : Bool) → (if a then (if b then None else at HouseOrder p) else at HouseForm p) ≡ None → (a ≡ true) × (b ≡ true)
@@ -141,7 +141,7 @@ items_good ((Holidays r, p) ∷ l) end e = let g = items_good l end e in record 
 items_good ((Times x, p) ∷ l) end e = let n = neither (span_break end p x) (items_break (minutes x.end) l) e in good_span_lem end p x l n.0 (items_good l (minutes x.end) n.1)
 
 good_items_lem : (l : List Placed) (end : ℕ) → Good end l → items_break end l ≡ None
-unfolding items_break span_break
+unfolding items_break span_break_as
 good_items_lem [] end g = refl
 good_items_lem ((Years r, p) ∷ l) end g = good_items_lem l end (record { form = g.form.1; forward = g.forward.1; after = g.after.1; rising = g.rising.1 })
 good_items_lem ((Months r, p) ∷ l) end g = good_items_lem l end (record { form = g.form.1; forward = g.forward.1; after = g.after.1; rising = g.rising.1 })

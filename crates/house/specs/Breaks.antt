@@ -1,29 +1,34 @@
 -- The first break of rules that were read, leftmost: their places rise (docs/RULES.md, 9).
-use Rattle.std.specs.Prelude.{ℕ, List, [], ◌∷◌, eqb, Some, None, if◌then◌else◌}
+use Rattle.std.specs.Prelude.{ℕ, List, [], ◌∷◌, eqb, Option, Some, None, if◌then◌else◌}
+use Rattle.names.specs.declared.refusals.Reason.{Reason}
 use Rattle.names.specs.declared.refusals.Reason.TheVariants.{HouseForm}
+use Rattle.names.specs.declared.refusals.Refusal.{Refusal}
 use Rattle.names.specs.declared.Manner.{Manner}
 use Rattle.names.specs.declared.Manner.TheVariants.{First, Second, House}
 use Rattle.records.specs.declared.Item.{Item}
 use Rattle.records.specs.declared.Item.TheVariants.{Years, Months, Dates, Weeks, Weekdays, Holidays, Times}
 use Rattle.records.specs.Words.{Placed}
 use Rattle.rules.specs.Rules.{Rule}
-use Rattle.house.specs.Spans.{Break, at, minutes, span_break}
+use Rattle.house.specs.Spans.{Break, at, minutes, span_break_as}
 use Rattle.house.specs.declared.Judgement.{Judgement}
 
 -- a break, or else another
-abbrev pub first_of : Break → Break → Break
+abbrev pub first_of : {A : Type 0} → Option A → Option A → Option A
 first_of None b = b
 first_of (Some r) b = Some r
 
 -- the break of an item, after spans of its rule that end there: only times are judged
+abbrev pub item_break_as : {R : Type 0} → (Reason → R) → ℕ → Placed → Option (Refusal R)
+item_break_as of end (Years r, p) = None
+item_break_as of end (Months r, p) = None
+item_break_as of end (Dates r, p) = None
+item_break_as of end (Weeks r, p) = None
+item_break_as of end (Weekdays r, p) = None
+item_break_as of end (Holidays r, p) = None
+item_break_as of end (Times x, p) = span_break_as of end p x
+
 abbrev pub item_break : ℕ → Placed → Break
-item_break end (Years r, p) = None
-item_break end (Months r, p) = None
-item_break end (Dates r, p) = None
-item_break end (Weeks r, p) = None
-item_break end (Weekdays r, p) = None
-item_break end (Holidays r, p) = None
-item_break end (Times x, p) = span_break end p x
+item_break = item_break_as (λ r. r)
 
 -- where the spans end with this item
 abbrev pub end_with : ℕ → Item → ℕ
@@ -62,20 +67,26 @@ judged_by House b = b
 -- ---- what the code knows of a rule, item by item
 
 -- before its items
-abbrev pub begun : Manner → ℕ → ℕ → Judgement
+abbrev pub begun : Manner → ℕ → ℕ → Judgement Reason
 begun m separator place = record { first = judged_by m (separator_break separator place); end = 0 }
 
 -- with an item more, in a house sheet
-abbrev pub with_house_item : Judgement → Placed → Judgement
-with_house_item h a = record { first = first_of h.first (item_break h.end a); end = end_with h.end a.0 }
+abbrev pub with_house_item_as : {R : Type 0} → (Reason → R) → Judgement R → Placed → Judgement R
+with_house_item_as of h a = record { first = first_of h.first (item_break_as of h.end a); end = end_with h.end a.0 }
+
+abbrev pub with_house_item : Judgement Reason → Placed → Judgement Reason
+with_house_item = with_house_item_as (λ r. r)
 
 -- with an item more
-abbrev pub with_item : Manner → Judgement → Placed → Judgement
-with_item First h a = h
-with_item Second h a = h
-with_item House h a = with_house_item h a
+abbrev pub with_item_as : {R : Type 0} → (Reason → R) → Manner → Judgement R → Placed → Judgement R
+with_item_as of First h a = h
+with_item_as of Second h a = h
+with_item_as of House h a = with_house_item_as of h a
+
+abbrev pub with_item : Manner → Judgement Reason → Placed → Judgement Reason
+with_item = with_item_as (λ r. r)
 
 -- with these items
-abbrev pub with_items : Manner → Judgement → List Placed → Judgement
+abbrev pub with_items : Manner → Judgement Reason → List Placed → Judgement Reason
 with_items m h [] = h
 with_items m h (a ∷ l) = with_items m (with_item m h a) l

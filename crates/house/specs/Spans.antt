@@ -10,10 +10,14 @@ use Rattle.records.specs.declared.Span.{Span}
 
 -- a break, at its place, or none
 abbrev pub Break : Type 0
-Break = Option Refusal
+Break = Option (Refusal Reason)
+
+-- a break as it is for one who knows breaks otherwise: of r is what a reason is there
+abbrev pub at_as : {R : Type 0} → (Reason → R) → Reason → ℕ → Option (Refusal R)
+at_as of r place = Some (record { reason = of r; place = place })
 
 abbrev pub at : Reason → ℕ → Break
-at reason place = Some (record { reason = reason; place = place })
+at = at_as (λ r. r)
 
 -- a clock time up to 24:00
 unfoldable pub is_clock : Time → Bool
@@ -51,5 +55,8 @@ unfoldable pub in_order : ℕ → Span → Bool
 in_order end x = ltb (minutes x.start) (minutes x.end) && leb end (minutes x.start)
 
 -- the break of a span at a place, after spans of its rule that end there: 22 before 23
-unfoldable pub span_break : ℕ → ℕ → Span → Break
-span_break end place x = if allowed x then (if in_order end x then None else at HouseOrder place) else at HouseForm place
+unfoldable pub span_break_as : {R : Type 0} → (Reason → R) → ℕ → ℕ → Span → Option (Refusal R)
+span_break_as of end place x = if allowed x then (if in_order end x then None else at_as of HouseOrder place) else at_as of HouseForm place
+
+abbrev pub span_break : ℕ → ℕ → Span → Break
+span_break = span_break_as (λ r. r)

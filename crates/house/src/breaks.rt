@@ -5,11 +5,11 @@ ghost use Rattle.house.specs.Breaks as breaks;
 
 use crate::Judgement;
 use crate::spans::{minutes, span_break};
-use names::{Manner, Reason, Refusal};
+use names::{Manner, Reason, Refusal, Why};
 use records::{Item, Span};
 
 // A break, or else another.
-pub fn first_of(a: Option<Refusal>, b: Option<Refusal>) -> Option<Refusal>
+pub fn first_of<T: Copy>(a: Option<T>, b: Option<T>) -> Option<T>
     ensures { result ≡ breaks.first_of a b }
 {
     a.or(b)
@@ -40,10 +40,12 @@ impl Judgement {
         };
         Judgement { first, end: 0 }
     }
+}
 
+impl<R: Why> Judgement<R> {
     // With a span more, in a house sheet.
-    fn span(self, x: Span, place: usize) -> Judgement
-        ensures { result ≡ breaks.with_house_item self (Times x, place) }
+    fn span(self, x: Span, place: usize) -> Judgement<R>
+        ensures { result ≡ breaks.with_house_item_as R.of_reason self (Times x, place) }
     {
         Judgement {
             first: first_of(self.first, span_break(self.end, place, x)),
@@ -52,8 +54,8 @@ impl Judgement {
     }
 
     // With an item more.
-    pub fn item(self, m: Manner, a: Item, place: usize) -> Judgement
-        ensures { result ≡ breaks.with_item m self (a, place) }
+    pub fn item(self, m: Manner, a: Item, place: usize) -> Judgement<R>
+        ensures { result ≡ breaks.with_item_as R.of_reason m self (a, place) }
     {
         match a {
             Item::Times(x) => match m {

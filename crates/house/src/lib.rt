@@ -6,11 +6,11 @@ mod breaks;
 mod spans;
 
 pub use breaks::first_of;
-use names::Refusal;
+use names::{Reason, Refusal};
 
 // What is known of a rule after some of its items: its first break, if it has one, and where its spans end.
 #[derive(Clone, Copy)]
-pub struct Judgement {
-    pub first: Option<Refusal>,
+pub struct Judgement<R = Reason> {
+    pub first: Option<Refusal<R>>,
     pub end: u16,
 }

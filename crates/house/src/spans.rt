@@ -2,7 +2,7 @@
 ghost use Rattle.std.specs.Prelude.{◌≡◌};
 ghost use Rattle.house.specs.Spans as spans;
 
-use names::{Reason, Refusal};
+use names::{Reason, Refusal, Why};
 use records::{Span, Time};
 
 // The minutes of 24:00.
@@ -63,9 +63,9 @@ fn in_order(end: u16, x: Span) -> bool
 }
 
 // The break of a span at a place, after spans of its rule that end there.
-#[tactic(auto, unfolding(crate::specs::Spans::span_break))]
-pub fn span_break(end: u16, place: usize, x: Span) -> Option<Refusal>
-    ensures { result ≡ spans.span_break end place x }
+#[tactic(auto, unfolding(crate::specs::Spans::span_break_as))]
+pub fn span_break<R: Why>(end: u16, place: usize, x: Span) -> Option<Refusal<R>>
+    ensures { result ≡ spans.span_break_as R.of_reason end place x }
 {
     let reason = if !allowed(x) {
         Reason::HouseForm
@@ -74,5 +74,8 @@ pub fn span_break(end: u16, place: usize, x: Span) -> Option<Refusal>
     } else {
         return None;
     };
-    Some(Refusal { reason, place })
+    Some(Refusal {
+        reason: R::of_reason(reason),
+        place,
+    })
 }

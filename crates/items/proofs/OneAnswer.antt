@@ -7,6 +7,7 @@ use Rattle.names.specs.Refusals.{number}
 use Rattle.names.specs.Seen.{numbers}
 use Rattle.names.specs.declared.Manner.{Manner}
 use Rattle.names.specs.declared.Word.{Word}
+use Rattle.names.specs.declared.refusals.Reason.{Reason}
 use Rattle.names.specs.declared.refusals.Refusal.{Refusal}
 use Rattle.records.specs.Words.{Placed}
 use Rattle.names.proofs.OneAnswer.{kind_one_answer}
@@ -26,7 +27,7 @@ name_one : (v w : Word) → numbers v ≡ numbers w → v ≡ w
 name_one v w e = rw (kind_one_answer v.kind w.kind (ap (λ (n : ℕ × ℕ). n.0) e), ap (λ (n : ℕ × ℕ). n.1) e)
 
 -- two answers about one place are one
-pub standing_one_answer : (m : Manner) (ks : List Kind) (s : List ℕ) (i : ℕ) (x y : Result Stands Refusal) → Standing m ks s i x → Standing m ks s i y → x ≡ y
+pub standing_one_answer : (m : Manner) (ks : List Kind) (s : List ℕ) (i : ℕ) (x y : Result Stands (Refusal Reason)) → Standing m ks s i x → Standing m ks s i y → x ≡ y
 standing_one_answer m ks s i (Ok (Item a c)) (Ok (Item b d)) e f = let h : c.at ≡ d.at = cc in let z : placed a ≡ placed b = cc in rw (placed_one a b z, h)
 standing_one_answer m ks s i (Ok (Item a c)) (Ok (Name v d)) e f = cc
 standing_one_answer m ks s i (Ok (Item a c)) (Ok Nothing) e f = cc

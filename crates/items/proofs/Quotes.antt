@@ -22,6 +22,7 @@ use Rattle.names.specs.declared.Manner.TheVariants.{Second}
 use Rattle.items.specs.Musts.{has_quote, at_broken_quote, missing_at, missing}
 use Rattle.items.specs.Seen.{Lacking}
 use Rattle.names.specs.Refusals.{number}
+use Rattle.names.specs.declared.refusals.Reason.{Reason}
 use Rattle.names.specs.declared.refusals.Refusal.{Refusal}
 
 -- a text that leads inside has a quote
@@ -105,7 +106,7 @@ missing_number s i = go (at_broken_quote s i)
     go false = omega arith
 
 -- what the code says is missing is missing, whatever was to stand there
-pub lack_is : (A : Type 0) (s : List ℕ) (i : ℕ) (r : Refusal) → Lacking s i r → missing {A = A} s i ≡ refused (number r.reason) r.place
+pub lack_is : (A : Type 0) (s : List ℕ) (i : ℕ) (r : (Refusal Reason)) → Lacking s i r → missing {A = A} s i ≡ refused (number r.reason) r.place
 unfolding missing
 lack_is A s i r h = rw (h.0, ← h.1)
 

@@ -5,6 +5,7 @@ use Rattle.names.specs.Texts.{blanks}
 use Rattle.names.specs.Refusals.{number}
 use Rattle.names.specs.Seen.{numbers, seen_judged}
 use Rattle.names.specs.declared.Cursor.{Cursor}
+use Rattle.names.specs.declared.refusals.Reason.{Reason}
 use Rattle.names.specs.declared.refusals.Refusal.{Refusal}
 use Rattle.names.specs.declared.Manner.{Manner}
 use Rattle.names.specs.Spellings.{odd_from}
@@ -29,14 +30,14 @@ abbrev pub placed : PlacedItem → Placed × Kind
 placed x = ((x.item, x.place), x.kind)
 
 -- what stands at the place i, where items of these kinds are wanted: such an item or its refusal, or else a name, or neither
-abbrev pub Standing : Manner → List Kind → List ℕ → ℕ → Result Stands Refusal → Type 0
+abbrev pub Standing : Manner → List Kind → List ℕ → ℕ → Result Stands (Refusal Reason) → Type 0
 Standing m ks s i (Ok (stands.Item x c)) = item_in m ks s i ≡ got (placed x) c.at
 Standing m ks s i (Ok (stands.Name w c)) = (item_in m ks s i ≡ none) × (word s i ≡ got (numbers w) c.at)
 Standing m ks s i (Ok stands.Nothing) = (item_in m ks s i ≡ none) × (word s i ≡ none)
 Standing m ks s i (Err r) = item_in m ks s i ≡ refused (number r.reason) r.place
 
 -- what is missing at a place: after the blanks, by its number
-abbrev pub Lacking : List ℕ → ℕ → Refusal → Type 0
+abbrev pub Lacking : List ℕ → ℕ → (Refusal Reason) → Type 0
 Lacking s i r = (blanks s i ≡ got tt r.place) × (number r.reason ≡ missing_at s r.place)
 
 -- what was read of an item at i, which has its place at p
@@ -60,7 +61,7 @@ with_kind k none = none
 with_kind k (refused n p) = refused n p
 
 -- an answer of those who look for no name: it says what was read
-abbrev pub Finds : Read (Placed × Kind) → Result (Option (PlacedItem × Cursor)) Refusal → Type 0
+abbrev pub Finds : Read (Placed × Kind) → Result (Option (PlacedItem × Cursor)) (Refusal Reason) → Type 0
 Finds m r = m ≡ seen_judged placed r
 
 -- this kind where a test passes, or else another wish

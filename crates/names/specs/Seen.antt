@@ -9,6 +9,7 @@ use Rattle.names.specs.declared.NameKind.TheVariants as kind
 use Rattle.names.specs.declared.Word.{Word}
 use Rattle.names.specs.declared.Named.{Named}
 use Rattle.names.specs.declared.Spelled.{Spelled}
+use Rattle.names.specs.declared.refusals.Reason.{Reason}
 use Rattle.names.specs.declared.refusals.Refusal.{Refusal}
 
 -- a place after what was read
@@ -25,13 +26,17 @@ seen f None = none
 abbrev pub seen_then : {A B : Type 0} → (A → B) → A × Cursor → Read B
 seen_then f x = got (f x.0) x.1.at
 
--- the same of what may be refused: a value, or no such shape
-abbrev pub seen_judged : {A B : Type 0} → (A → B) → Result (Option (A × Cursor)) Refusal → Read B
-seen_judged f (Ok o) = seen f o
-seen_judged f (Err r) = refused (refusals.number r.reason) r.place
+-- the same of what may be refused: a value, or no such shape; n is the number of why
+abbrev pub seen_by : {A B R : Type 0} → (R → ℕ) → (A → B) → Result (Option (A × Cursor)) (Refusal R) → Read B
+seen_by n f (Ok o) = seen f o
+seen_by n f (Err r) = refused (n r.reason) r.place
+
+-- refused by a reason
+abbrev pub seen_judged : {A B : Type 0} → (A → B) → Result (Option (A × Cursor)) (Refusal Reason) → Read B
+seen_judged = seen_by refusals.number
 
 -- the same of what is always there, or refused
-abbrev pub seen_certain : {A B : Type 0} → (A → B) → Result (A × Cursor) Refusal → Read B
+abbrev pub seen_certain : {A B : Type 0} → (A → B) → Result (A × Cursor) (Refusal Reason) → Read B
 seen_certain f (Ok x) = seen_then f x
 seen_certain f (Err r) = refused (refusals.number r.reason) r.place
 

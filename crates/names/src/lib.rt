@@ -7,9 +7,11 @@ mod spellings;
 mod table;
 mod tests;
 mod texts;
+mod why;
 
 pub use refusals::{Reason, Refusal};
 pub use tests::within;
+pub use why::Why;
 
 // How a text is read: by the first edition of the rules; by the second, which takes more shapes; or as a house sheet, by the first and judged by the house profile besides.
 #[derive(Clone, Copy)]

@@ -48,9 +48,9 @@ impl Reason {
     }
 }
 
-// A refusal: why, and at which place.
+// A refusal: why, and at which place. A reader of texts says why by a reason.
 #[derive(Clone, Copy, PartialEq, Eq)]
-pub struct Refusal {
-    pub reason: Reason,
+pub struct Refusal<R = Reason> {
+    pub reason: R,
     pub place: usize,
 }

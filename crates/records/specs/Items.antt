@@ -9,10 +9,14 @@ use Rattle.names.specs.declared.refusals.Reason.{Reason}
 abbrev pub Meant : Type 0
 Meant = Result Item Reason
 
--- a judgement: the item, or a refusal at the item's first byte p
+-- a judgement: the item, or a refusal at the item's first byte p; n is the number of why
+abbrev pub judged_by : {R : Type 0} → (R → ℕ) → ℕ → Result Item R → Reader Item
+judged_by n p (Ok a) = pure a
+judged_by n p (Err k) = refuse (n k) p
+
+-- refused by a reason
 abbrev pub judged : ℕ → Meant → Reader Item
-judged p (Ok a) = pure a
-judged p (Err k) = refuse (number k) p
+judged = judged_by number
 
 -- the item that begins at p: a shape is read whole, and its meaning is judged
 abbrev pub meant : {R : Type 0} → ℕ → Reader R → (R → Meant) → Reader Item

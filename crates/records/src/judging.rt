@@ -1,14 +1,18 @@
 // An item is judged when its longest shape is read.
 ghost use Rattle.std.specs.Prelude.{◌≤◌, [], ◌≡◌};
 ghost use Rattle.records.specs.Items as items;
-ghost use Rattle.records.specs.Seen.{seen_item};
+ghost use Rattle.records.specs.Seen.{seen_item_by};
 
-use crate::{ItemRead, Meant};
-use names::{Cursor, Refusal};
+use crate::Item;
+use names::{Cursor, Refusal, Why};
 
-// A judgement at c: the item, or a refusal at the item's first byte.
-pub fn judged(place: usize, m: Meant, c: Cursor) -> ItemRead
-    ensures { items.judged place m [] c.at ≡ seen_item result }
+// A judgement at c: the item, or a refusal at the item's first byte, by whatever it is refused.
+pub fn judged<R: Why>(
+    place: usize,
+    m: Result<Item, R>,
+    c: Cursor,
+) -> Result<Option<(Item, Cursor)>, Refusal<R>>
+    ensures { items.judged_by R.number place m [] c.at ≡ seen_item_by R.number result }
 {
     match m {
         Ok(a) => Ok(Some((a, c))),

@@ -3,6 +3,7 @@ use Prim.Native.Nat.{ℕ}
 use mathlib.Core.Path.{◌≡◌, ap}
 use Rattle.std.specs.Prelude.{Option, Result}
 use Rattle.names.specs.declared.Cursor.{Cursor}
+use Rattle.names.specs.declared.refusals.Reason.{Reason}
 use Rattle.names.specs.declared.refusals.Refusal.{Refusal}
 use Rattle.names.proofs.OneAnswer.{seen_one_answer}
 use Rattle.records.specs.declared.Comment.{Comment}
@@ -15,7 +16,7 @@ use Rattle.rules.specs.declared.Stage.TheVariants.{After}
 use Rattle.rules.specs.declared.Piece.{Piece}
 use Rattle.rules.specs.declared.Piece.TheVariants as piece
 
-pub comment_one_answer : (x y : Result (Option (Comment × Cursor)) Refusal) → seen_comment x ≡ seen_comment y → x ≡ y
+pub comment_one_answer : (x y : Result (Option (Comment × Cursor)) (Refusal Reason)) → seen_comment x ≡ seen_comment y → x ≡ y
 comment_one_answer = judged_one_answer (λ a. a) (λ a b e. e)
 
 -- a piece is known by what it says
@@ -29,11 +30,11 @@ piece_one (piece.Item x) (piece.End u) e = cc
 piece_one (piece.End t) (piece.Item y) e = cc
 piece_one (piece.End t) (piece.End u) e = let h : t ≡ u = cc in rw h
 
-pub piece_one_answer : (x y : Result (Piece × Cursor) Refusal) → seen_piece x ≡ seen_piece y → x ≡ y
+pub piece_one_answer : (x y : Result (Piece × Cursor) (Refusal Reason)) → seen_piece x ≡ seen_piece y → x ≡ y
 piece_one_answer = certain_one_answer piece_of piece_one
 
 pub next_one_answer : (x y : Option (Option ℕ × Cursor)) → seen_next x ≡ seen_next y → x ≡ y
 next_one_answer = seen_one_answer (λ a. a) (λ a b e. e)
 
-pub opening_one_answer : (x y : Result (Opening × Cursor) Refusal) → seen_opening x ≡ seen_opening y → x ≡ y
+pub opening_one_answer : (x y : Result (Opening × Cursor) (Refusal Reason)) → seen_opening x ≡ seen_opening y → x ≡ y
 opening_one_answer = certain_one_answer (λ a. a) (λ a b e. e)

@@ -11,6 +11,7 @@ use Rattle.records.specs.declared.Comment.{Comment}
 use Rattle.names.specs.declared.Manner.{Manner}
 use Rattle.names.specs.declared.Cursor.{Cursor}
 use Rattle.rules.specs.declared.Opening.{Opening}
+use Rattle.names.specs.declared.refusals.Reason.{Reason}
 use Rattle.names.specs.declared.refusals.Refusal.{Refusal}
 use Rattle.rules.specs.declared.Stage.{Stage}
 use Rattle.rules.specs.declared.Stage.TheVariants.{Beginning, Always, Colon}
@@ -39,7 +40,7 @@ unfoldable pub opening : Reader Opening
 opening = always or wide_comment or pure (opening_of Beginning no_comment)
 
 -- an opening without a comment, as the code answers it
-abbrev pub plain_at : Stage → Cursor → Result (Opening × Cursor) Refusal
+abbrev pub plain_at : Stage → Cursor → Result (Opening × Cursor) (Refusal Reason)
 plain_at stage c = Ok (opening_of stage no_comment, c)
 
 -- the modifier's comment wins over the wide part's

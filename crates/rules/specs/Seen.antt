@@ -4,6 +4,7 @@ use Rattle.std.proofs.Common.{inl, inr}
 use Rattle.names.specs.Read.{Read, branch, pure, map}
 use Rattle.names.specs.Seen.{seen, seen_judged, seen_certain}
 use Rattle.names.specs.declared.Cursor.{Cursor}
+use Rattle.names.specs.declared.refusals.Reason.{Reason}
 use Rattle.names.specs.declared.refusals.Refusal.{Refusal}
 use Rattle.names.specs.declared.Manner.{Manner}
 use Rattle.items.specs.Musts.{missing, must}
@@ -23,7 +24,7 @@ use Rattle.rules.specs.declared.Stage.TheVariants.{After}
 use Rattle.rules.specs.declared.Opening.{Opening}
 
 -- a comment and the place after it
-abbrev pub seen_comment : Result (Option (Comment × Cursor)) Refusal → Read Comment
+abbrev pub seen_comment : Result (Option (Comment × Cursor)) (Refusal Reason) → Read Comment
 seen_comment = seen_judged (λ a. a)
 
 -- a piece: an item and the stage after it, or the rule's end
@@ -31,11 +32,11 @@ abbrev pub piece_of : Piece → (Placed × Stage) ⊎ Tail
 piece_of (piece.Item x) = inl ((x.item, x.place), After x.kind)
 piece_of (piece.End t) = inr t
 
-abbrev pub seen_piece : Result (Piece × Cursor) Refusal → Read ((Placed × Stage) ⊎ Tail)
+abbrev pub seen_piece : Result (Piece × Cursor) (Refusal Reason) → Read ((Placed × Stage) ⊎ Tail)
 seen_piece = seen_certain piece_of
 
 -- a refusal of what has to stand at a place and does not: neither an item nor an end
-abbrev pub Lacks : List ℕ → ℕ → Result (Piece × Cursor) Refusal → Type 0
+abbrev pub Lacks : List ℕ → ℕ → Result (Piece × Cursor) (Refusal Reason) → Type 0
 Lacks s i r = (map inl missing s i ≡ seen_piece r) × (map inr missing s i ≡ seen_piece r)
 
 -- where a rule with this stage and place goes on: with an item that has to stand there; or with one that may, or a modifier; or it ends
@@ -56,7 +57,7 @@ BlankTurns ks s c r =
     (plain_end x))) s c ≡ turned m s x c r
 
 -- what is always there, if only as nothing, or refused
-abbrev pub seen_opening : Result (Opening × Cursor) Refusal → Read Opening
+abbrev pub seen_opening : Result (Opening × Cursor) (Refusal Reason) → Read Opening
 seen_opening = seen_certain (λ a. a)
 
 -- the number of what parts a rule from the next, or none at the text's end

@@ -29,6 +29,7 @@ use Rattle.sheet.specs.declared.Answer.{Answer}
 use Rattle.sheet.specs.declared.PartAnswer.{PartAnswer}
 use Rattle.std.specs.Prelude.{Result, Ok, Err}
 use Rattle.names.specs.declared.Cursor.{Cursor}
+use Rattle.names.specs.declared.refusals.Reason.{Reason}
 use Rattle.names.specs.declared.refusals.Refusal.{Refusal}
 use Rattle.text_rules.specs.declared.Counted.{Counted}
 
@@ -138,7 +139,7 @@ module _ (m : Manner) (s : List ℕ) (p : ℕ) where
 
   module _ (t t' u : Tables) {n w : ℕ} (k : Kept m t t' s p n w) where
     -- read again into other tables
-    pub again : (r : Result (Counted × Cursor) Refusal) {u' : Tables} → rules_into m u s p ≡ seen_rules_into r u' → u' ≡ all_kept u 0 (records k.list)
+    pub again : (r : Result (Counted × Cursor) (Refusal Reason)) {u' : Tables} → rules_into m u s p ≡ seen_rules_into r u' → u' ≡ all_kept u 0 (records k.list)
     again (Ok x) {u'} e =
         let f : ◌≡◌ {A = Read Totals} (got (totals u (k.list, tt)) k.end) (got (x.0.records, x.0.warnings, u') x.1.at) = rw k.is at e in
         let g : ◌≡◌ {A = Totals} (totals u (k.list, tt)) (x.0.records, x.0.warnings, u') = cc in

@@ -33,6 +33,7 @@ use Rattle.rules.proofs.Small.{Small, SmallEnd, end_small, wins_small}
 use Rattle.house.specs.Breaks.{begun, with_item, with_items}
 use Rattle.house.specs.Spans.{Break}
 use Rattle.house.specs.declared.Judgement.{Judgement}
+use Rattle.names.specs.declared.refusals.Reason.{Reason}
 use Rattle.house.proofs.Laws.{rule_first}
 use Rattle.text_rules.specs.Texts.{rule_records}
 use Rattle.text_rules.specs.Into.{Known, known_of, rule_into}
@@ -52,13 +53,13 @@ Filled = (Head × Break) × Tables
 
 module _ (m : Manner) (place separator : ℕ) (wide : Comment) (slot : ℕ) where
   -- of pieces after n items, which have w warnings and are judged so far as h says: the rule's head and first break, and tables with these items after those
-  abbrev filled : Tables → Judgement → ℕ → ℕ → List Placed × Tail → Filled
+  abbrev filled : Tables → Judgement Reason → ℕ → ℕ → List Placed × Tail → Filled
   filled t h n w r =
       let head = head_of place separator r.1 wide (n + length r.0) (w + items_warnings r.0) in
       ((head, (with_items m h r.0).first), all_kept t (slot + suc n) (list.map item_record r.0))
 
   -- what is left of a rule from a stage on
-  abbrev pub left : Tables → Judgement → ℕ → ℕ → Stage → Reader Filled
+  abbrev pub left : Tables → Judgement Reason → ℕ → ℕ → Stage → Reader Filled
   left t h n w x = map (filled t h n w) (chain (more m) end x)
 
   -- with the head in its slot
@@ -87,7 +88,7 @@ module _ (m : Manner) (place separator : ℕ) (wide : Comment) (slot : ℕ) wher
             (ap (λ (b : Break). ((length r.0, h.warnings, b), all_kept t slot (rule_records l))) (sym (rule_first m l))
             ∙ ap (λ (u : Tables). ((length r.0, h.warnings, (with_items m (begun m separator place) r.0).first), u)) (sym (all_head rs t slot (head_words h) (head_sixteen h))))
 
-    module _ (h : Judgement) (n w : ℕ) (x : Stage) (i : ℕ) where
+    module _ (h : Judgement Reason) (n w : ℕ) (x : Stage) (i : ℕ) where
       -- an item more
       left_more : {a : Placed} {y : Stage} {j : ℕ} → more m x s i ≡ got (a, y) j →
           left t h n w x s i ≡ left (kept_in t (slot + (n + 1)) (item_record a)) (with_item m h a) (n + 1) (w + item_warnings a.0) y s j
@@ -120,7 +121,7 @@ module _ (m : Manner) (place separator : ℕ) (wide : Comment) (slot : ℕ) wher
 
 -- from tables t, a stage y and a place j: n items with w warnings are kept and judged, which made the table and the judgement h, and the stage x at the place i is what is left
 pub record Turn (m : Manner) (place separator : ℕ) (wide : Comment) (slot : ℕ) (s : List ℕ) (t : Tables) (y : Stage) (j : ℕ)
-    (table : Tables) (h : Judgement) (n w : ℕ) (x : Stage) (i : ℕ) : Type 0 where
+    (table : Tables) (h : Judgement Reason) (n w : ℕ) (x : Stage) (i : ℕ) : Type 0 where
   pub low : n ≤ i
   pub few : n ≤ length s
   pub mild : w ≤ n * 6
@@ -134,7 +135,7 @@ module _ (m : Manner) (place separator : ℕ) (wide : Comment) (slot : ℕ) (s :
   turn_begin = record { low = omega arith; few = omega arith; mild = omega arith; words = refl; bytes = refl; reads = refl }
 
   -- an item more
-  pub turn_more : (table : Tables) (h : Judgement) (n w : ℕ) (x : Stage) (i : ℕ) {a : Placed} {x₂ : Stage} {k : ℕ} →
+  pub turn_more : (table : Tables) (h : Judgement Reason) (n w : ℕ) (x : Stage) (i : ℕ) {a : Placed} {x₂ : Stage} {k : ℕ} →
       Turn m place separator wide slot s t y j table h n w x i → more m x s i ≡ got (a, x₂) k →
       Turn m place separator wide slot s t y j (kept_in table (slot + (n + 1)) (item_record a)) (with_item m h a) (n + 1) (w + item_warnings a.0) x₂ k
   turn_more table h n w x i {a} z e =
@@ -149,7 +150,7 @@ module _ (m : Manner) (place separator : ℕ) (wide : Comment) (slot : ℕ) (s :
       }
 
   -- the rule, from what is left
-  pub turn_whole : {o : Opening} (table : Tables) (h : Judgement) (n w : ℕ) (x : Stage) (i : ℕ) {r : Read Filled} → opening s place ≡ got o j → wide ≡ o.comment →
+  pub turn_whole : {o : Opening} (table : Tables) (h : Judgement Reason) (n w : ℕ) (x : Stage) (i : ℕ) {r : Read Filled} → opening s place ≡ got o j → wide ≡ o.comment →
       y ≡ o.stage → Turn m place separator wide slot s t y j table h n w x i →
       left m place separator wide slot table h n w x s i ≡ r → rule_into m t slot separator s place ≡ follow s j r (λ f. pure (headed m place separator wide slot f)) nothing
   turn_whole table h n w x i e c q z f = left_opening m place separator wide slot s t e c ∙ rw (← q, ← z.reads, f)

@@ -23,6 +23,7 @@ use Rattle.house.specs.Breaks.{first_of, rule_break, rules_break, judged_by}
 use Rattle.house.specs.Spans.{Break}
 use Rattle.house.proofs.Laws.{first_none, first_assoc, judged_none, judged_first}
 use Rattle.names.specs.declared.Cursor.{Cursor}
+use Rattle.names.specs.declared.refusals.Reason.{Reason}
 use Rattle.names.specs.declared.refusals.Refusal.{Refusal}
 use Rattle.text_rules.specs.declared.Known.{Known as KnownRule}
 use Rattle.text_rules.specs.Texts.{after_rule, parted, more_rules, no_more, rules, unbroken, judged_rules, rule_records, records, warnings}
@@ -84,7 +85,7 @@ after_same a b s k l e f = rw (e, f)
 
 module _ (m : Manner) (t t' : Tables) (slot separator : ℕ) (s : List ℕ) (i : ℕ) where
   -- what a turn of the loop reads, from what a rule and what parts it from the next are read as
-  pub step : {j : ℕ} (y : Result (KnownRule × Cursor) Refusal) {z : Read (Known × Option ℕ)} → blanks s i ≡ got tt j → rule_into m t slot separator s j ≡ seen_rule_into y t' → follow s 0 (seen_rule y) after_rule nothing ≡ z →
+  pub step : {j : ℕ} (y : Result (KnownRule × Cursor) (Refusal Reason)) {z : Read (Known × Option ℕ)} → blanks s i ≡ got tt j → rule_into m t slot separator s j ≡ seen_rule_into y t' → follow s 0 (seen_rule y) after_rule nothing ≡ z →
       map (both (rule_kept m t slot)) (more_rules m (Some separator)) s i ≡ follow s i z (λ x. pure (both (λ k. (k, t')) x)) nothing
   unfolding more_rules parted
   step {j} y {z} e f g = rw (e, ← g) (go (rule m separator s j) y f)
@@ -94,7 +95,7 @@ module _ (m : Manner) (t t' : Tables) (slot separator : ℕ) (s : List ℕ) (i :
       changed f k none = refl
       changed f k (refused l p) = refl
 
-      go : (r : Read Rule) (y : Result (KnownRule × Cursor) Refusal) → follow s j r (λ x. pure (rule_kept m t slot x)) nothing ≡ seen_rule_into y t' →
+      go : (r : Read Rule) (y : Result (KnownRule × Cursor) (Refusal Reason)) → follow s j r (λ x. pure (rule_kept m t slot x)) nothing ≡ seen_rule_into y t' →
           follow s i (follow s j r after_rule nothing) (λ x. pure (both (rule_kept m t slot) x)) nothing
           ≡ follow s i (follow s 0 (seen_rule y) after_rule nothing) (λ x. pure (both (λ k. (k, t')) x)) nothing
       go (got r k) (Ok (x, c)) f =
@@ -111,14 +112,14 @@ module _ (m : Manner) (t t' : Tables) (slot separator : ℕ) (s : List ℕ) (i :
       go (refused l p) (Err o) f = cc
 
   -- the same where the rule was read, up to c, and what parts it from the next is read as x
-  pub step_parted : (known : Known) {j : ℕ} (c : Cursor) (x : Result (Option ℕ × Cursor) Refusal) → blanks s i ≡ got tt j → rule_into m t slot separator s j ≡ got (known, t') c.at →
+  pub step_parted : (known : Known) {j : ℕ} (c : Cursor) (x : Result (Option ℕ × Cursor) (Refusal Reason)) → blanks s i ≡ got tt j → rule_into m t slot separator s j ≡ got (known, t') c.at →
       after_rule tt s c.at ≡ seen_parted x →
       map (both (rule_kept m t slot)) (more_rules m (Some separator)) s i ≡ follow s i (seen_parted x) (λ y. pure (both {B = Known × Tables} (λ _. (known, t')) y)) nothing
   step_parted known c x e f g =
       step (Ok (record { items = known.0; warnings = known.1; first = known.2 }, c)) e f
       (after_first (λ (u : Unit {0}). known) tt s c.at ∙ ap (λ (r : Read (Unit {0} × Option ℕ)). follow s c.at r (λ y. pure (both (λ _. known) y)) nothing) g) ∙ go x
     where
-      go : (x : Result (Option ℕ × Cursor) Refusal) → follow s i (follow s c.at (seen_parted x) (λ y. pure (both (λ _. known) y)) nothing) (λ y. pure (both {B = Known × Tables} (λ k. (k, t')) y)) nothing
+      go : (x : Result (Option ℕ × Cursor) (Refusal Reason)) → follow s i (follow s c.at (seen_parted x) (λ y. pure (both (λ _. known) y)) nothing) (λ y. pure (both {B = Known × Tables} (λ k. (k, t')) y)) nothing
           ≡ follow s i (seen_parted x) (λ y. pure (both {B = Known × Tables} (λ _. (known, t')) y)) nothing
       go (Ok x) = refl
       go (Err r) = refl
