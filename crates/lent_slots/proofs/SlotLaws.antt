@@ -1,14 +1,16 @@
 -- A table's records, slot by slot.
-use Prim.Native.Nat.{ℕ, zero, suc, ◌+◌, ◌*◌, ◌-◌, ◌≤◌, ◌<◌}
+use Prim.Native.Nat.{ℕ, zero, suc, ◌+◌, ◌*◌, ◌-◌, ◌/◌, ◌≤◌, ◌<◌}
+use native.Mathlib.Nat.{div-add-mod'}
 use native.Mathlib.Numerals.{add-one}
 use native.Mathlib.Omega.{arith}
 use mathlib.Core.List.{List, [], ◌∷◌, ◌++◌}
+use mathlib.Core.Bool.{false}
 use mathlib.Core.Path.{◌≡◌, sym, ap, ◌∙◌}
 use lib.IntN.{ℤ}
 use lib.ListN.{length, take, set}
 use lib.Seq.{take-suc-set}
 use Rattle.lent_slots.specs.Tables.{Tables}
-use Rattle.lent_slots.specs.Slots.{word_from, words_from, record_at, records_from}
+use Rattle.lent_slots.specs.Slots.{word_from, words_from, is_words, record_at, slots, records_from}
 
 -- ---- the words of bytes
 
@@ -25,6 +27,16 @@ pub word_more : (w : List ℤ) (b : List ℕ) (p i : ℕ) {v : ℤ} → i < leng
 word_more w b p i {v} h e q = rw (add-one i, take-suc-set w i v h, q, e) (sym (words_more i b p))
 
 -- ---- slots
+
+-- a slot that a table has lies in its words, or in its bytes
+module _ (t : Tables) (k : ℕ) where
+  pub words_slot : length t.1 ≡ 0 → k < slots t → k * 16 + 16 ≤ length t.0
+  unfolding slots
+  words_slot e h = let g : k < length t.0 / 16 = rw e at h in omega (arith, div-add-mod' (length t.0) 16)
+
+  pub bytes_slot : is_words t ≡ false → k < slots t → k * 64 + 64 ≤ length t.1
+  unfolding slots
+  bytes_slot e h = let g : k < length t.1 / 64 = rw e at h in omega (arith, div-add-mod' (length t.1) 64)
 
 pub slot_next : (t : Tables) (n k : ℕ) → k < n → records_from t (n - k) k ≡ record_at t k ∷ records_from t (n - (k + 1)) (k + 1)
 unfolding records_from

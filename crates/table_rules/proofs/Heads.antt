@@ -1,6 +1,7 @@
 -- The rules of a table from a slot on: at its end, at a head, and at an item.
-use Prim.Native.Nat.{ℕ, zero, suc, ◌+◌, ◌-◌, ◌≤◌, ◌<◌}
-use native.Mathlib.Nat.{sub-zero}
+use Rattle.std.specs.Prelude.{if◌then◌else◌}
+use Prim.Native.Nat.{ℕ, zero, suc, ◌+◌, ◌-◌, ◌/◌, ◌≤◌, ◌<◌}
+use native.Mathlib.Nat.{div-add-mod', sub-zero}
 use native.Mathlib.Numerals.{add-one}
 use native.Mathlib.Omega.{arith}
 use borrow.Author.Tests.{eqb-false, not-true}
@@ -15,9 +16,18 @@ use Rattle.lent_slots.specs.Tables.{Tables}
 use Rattle.records.specs.declared.Item.{Item}
 use Rattle.records.specs.Told.{candidate}
 use Rattle.tables.specs.Tables.{is_head, cut, rules_fit, records_fit, table_fits}
-use Rattle.lent_slots.specs.Slots.{slots, record_at, records_from, records_of, is_whole}
+use Rattle.lent_slots.specs.Slots.{is_words, slots, record_at, records_from, records_of, is_whole}
 use Rattle.lent_slots.proofs.SlotLaws.{slot_next, slot_end}
 use Rattle.table_rules.specs.Rules.{Rule, rules_from, rules_in, rule_at, items_up, rules_up, rule_of, IsFirstHead}
+
+-- a table has at most 2 ^ 60 slots
+pub few_slots : (t : Tables) → length t.0 < 18446744073709551616 → length t.1 < 18446744073709551616 → slots t ≤ 1152921504606846976
+unfolding slots
+few_slots t a b = go (is_words t)
+  where
+    go : (x : Bool) → (if x then length t.0 / 16 else length t.1 / 64) ≤ 1152921504606846976
+    go true = omega (arith, div-add-mod' (length t.0) 16)
+    go false = omega (arith, div-add-mod' (length t.1) 64)
 
 -- the rules of a table are those from its first slot on
 pub rules_all : (t : Tables) → rules_up t 0 ≡ rules_in t
