@@ -4,7 +4,7 @@
 
 use items::{HOLIDAYS, Kinds, MONTH_DAYS, Stands, TIMES, WEEK_NUMBERS, WEEKDAYS, YEARS, look_at};
 use names::{Cursor, Manner, Refusal};
-use prints::{Pen, read_full};
+use prints::{LentPen, read_full};
 use records::keep_item;
 use std::io::Error;
 
@@ -21,7 +21,7 @@ fn kinds_of(b: u8) -> Kinds {
 }
 
 // An answer as a line shows it.
-fn show(pen: &mut Pen, r: Result<Stands, Refusal>) {
+fn show(pen: &mut LentPen, r: Result<Stands, Refusal>) {
     match r {
         Ok(Stands::Item(found, c)) => {
             let mut words = [0i32; 16];
@@ -46,7 +46,7 @@ fn show(pen: &mut Pen, r: Result<Stands, Refusal>) {
 fn right(rt: &impl Print, kind: u8, text: &[u8], answer: &[u8]) -> Result<bool, Error> {
     // (16 words, with a blank after each and all that stands beside them, are shorter.)
     let mut space = [0u8; 255];
-    let mut pen = Pen {
+    let mut pen = LentPen {
         out: &mut space,
         at: 0,
     };

@@ -7,12 +7,12 @@ ghost use Rattle.item_texts.specs.Joints as joints;
 use crate::Joint;
 use date_texts::{dates, months, weeks, years};
 use day_texts::{holidays, weekdays};
-use pen::Pen;
+use pen::LentPen;
 use records::Item;
 use time_texts::span;
 
 // An item.
-fn item(p: &mut Pen, a: Item)
+fn item(p: &mut LentPen, a: Item)
     requires { items.good_item a ≡ true }
     ensures { Poured (items.item_text a) p.old p.new }
 {
@@ -28,7 +28,7 @@ fn item(p: &mut Pen, a: Item)
 }
 
 // The first item of its list: weeks have their word before them.
-pub fn put_first(p: &mut Pen, a: Item)
+pub fn put_first(p: &mut LentPen, a: Item)
     requires { items.good_item a ≡ true }
     ensures { Poured (items.full a) p.old p.new }
 {
@@ -39,7 +39,7 @@ pub fn put_first(p: &mut Pen, a: Item)
 }
 
 // An item after another, if it may stand there.
-pub fn put_after(p: &mut Pen, j: Option<Joint>, a: Item)
+pub fn put_after(p: &mut LentPen, j: Option<Joint>, a: Item)
     requires { items.good_item a ≡ true }
     ensures { Poured (joints.joined j a) p.old p.new }
 {

@@ -9,7 +9,7 @@ ghost use Rattle.outputs.specs.Outputs.{numbers_of, output_of, filled, longest};
 ghost use Rattle.lent_slots.specs.Tables.{records_in};
 
 use calls::read_sheet;
-use prints::Pen;
+use prints::LentPen;
 use sheet::Answer;
 
 // A table for 512 records.
@@ -19,7 +19,7 @@ const WORDS: usize = 512 * 16;
 pub const MOST: usize = 4 * 21 + 512 * 16 * 12;
 
 // A number, and the byte after it.
-fn put_ended(pen: &mut Pen, n: u64, end: u8)
+fn put_ended(pen: &mut LentPen, n: u64, end: u8)
     ensures most { pen.new.at ≤ pen.old.at + 21 }
     ensures whole { Writes (decimal n ++ (end ∷ [])) pen.old pen.new }
 {
@@ -28,7 +28,7 @@ fn put_ended(pen: &mut Pen, n: u64, end: u8)
 }
 
 // The answer's line.
-fn put_answer(pen: &mut Pen, a: Answer)
+fn put_answer(pen: &mut LentPen, a: Answer)
     ensures most { pen.new.at ≤ pen.old.at + 84 }
     ensures whole { Writes (line (numbers_of a)) pen.old pen.new }
 {
@@ -45,7 +45,7 @@ pub fn output(sheet: &[u8], out: &mut [u8]) -> usize
 {
     let mut table = [0i32; WORDS];
     let a = read_sheet(sheet, &mut table);
-    let mut pen = Pen { out, at: 0 };
+    let mut pen = LentPen { out, at: 0 };
     put_answer(&mut pen, a);
     let (records, _) = table.as_chunks::<16>();
     pen.put_lines(&records[..a.records]);

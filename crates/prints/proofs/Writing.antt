@@ -5,7 +5,7 @@ use mathlib.Core.Path.{◌≡◌, refl, sym, ap, ◌∙◌}
 use native.Mathlib.Omega.{arith, min_cases}
 use lib.ListN.{length, set, length-append}
 use lib.Seq.{sets, set_out, length-sets}
-use Rattle.prints.specs.declared.pens.Pen.{Pen}
+use Rattle.prints.specs.declared.pens.LentPen.{LentPen}
 use Rattle.prints.specs.Pens.{largest, wrote, Writes}
 
 -- stores past the end change nothing
@@ -35,17 +35,17 @@ wrote_append x y at out {p} {o} h e =
     rw (ep, eo, l, s)
 
 -- nothing is written where the pen stays
-pub nothing : (p : Pen) → p.at ≤ largest → length p.out.now ≤ largest → Writes [] p p
+pub nothing : (p : LentPen) → p.at ≤ largest → length p.out.now ≤ largest → Writes [] p p
 nothing p h f = record { whole = let e : p.at ≡ min (p.at + 0) largest = omega arith in ap (λ (n : ℕ). (n, p.out.now)) e; lent = refl; fits = f }
 
 -- two texts, one after the other
-pub then : {x y : List ℕ} {p q r : Pen} → Writes x p q → Writes y q r → Writes (x ++ y) p r
+pub then : {x y : List ℕ} {p q r : LentPen} → Writes x p q → Writes y q r → Writes (x ++ y) p r
 then {x} {y} {p} {q} {r} a b = record { whole = b.whole ∙ wrote_append x y p.at p.out.now a.fits a.whole; lent = b.lent ∙ a.lent; fits = a.fits }
 
 -- a text in other words
-pub same : {x y : List ℕ} {p q : Pen} → Writes x p q → x ≡ y → Writes y p q
+pub same : {x y : List ℕ} {p q : LentPen} → Writes x p q → x ≡ y → Writes y p q
 same a e = rw e at a
 
 -- the place moves by the text's length at most
-pub most : {x : List ℕ} {p q : Pen} → Writes x p q → q.at ≤ p.at + length x
+pub most : {x : List ℕ} {p q : LentPen} → Writes x p q → q.at ≤ p.at + length x
 most {x} {p} {q} a = omega (arith, ap (λ r. r.0) a.whole)

@@ -1,4 +1,4 @@
-// What the programs write: numbers and lines of numbers, into lent bytes (`Pen`) or to standard output, a blank or the line's end after each.
+// What the programs write: numbers and lines of numbers, into lent bytes (`LentPen`) or to standard output, a blank or the line's end after each.
 // A write that fails ends what is printed, and its error is returned. And how they read their input (`fill`).
 #![tactic(auto)]
 
@@ -6,7 +6,7 @@ mod inputs;
 mod pens;
 
 pub use inputs::{Cut, fill, read_full};
-pub use pens::Pen;
+pub use pens::{LentPen, Pen};
 use std::io::Error;
 
 // A number, and the byte after it.
@@ -18,12 +18,7 @@ pub fn print_number(rt: &impl Print, n: u64, end: u8) -> Result<(), Error> {
 // A record's words on a line, of 16 times 12 bytes at most.
 fn print_record(rt: &impl Print, words: &[i32; 16]) -> Result<(), Error> {
     let mut line = [0u8; 192];
-    let mut pen = Pen {
-        out: &mut line,
-        at: 0,
-    };
-    pen.put_line(words);
-    let n = pen.at;
+    let n = Pen { at: 0 }.put_line(&mut line, words).at;
     rt.write_all(&line[..n])
 }
 

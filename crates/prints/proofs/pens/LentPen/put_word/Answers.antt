@@ -5,8 +5,8 @@ use Rattle.prints.specs.Pens.{Writes}
 use Rattle.prints.proofs.Decimals.{signed_most}
 use Rattle.prints.proofs.Laws.{signed_below, signed_plain}
 use Rattle.prints.proofs.Writing.{then, same, most}
-use Rattle.prints.proofs.pens.Pen.put_word.Goals as goal
-use Rattle.prints.proofs.pens.Pen.put_word.Goals.{then-w-lt0, else-w-lt0}
+use Rattle.prints.proofs.pens.LentPen.put_word.Goals as goal
+use Rattle.prints.proofs.pens.LentPen.put_word.Goals.{then-w-lt0, else-w-lt0}
 
 -- the sign of a number below 0, and its size
 word : (c : goal.After-put_number) → Writes (signed c.args.w) c.args.self.now c.put_number.new.self

@@ -4,7 +4,7 @@ use mir.Syntax.{w32}
 use mir.Facts.{to_z-of_z}
 use Rattle.prints.proofs.Lines.{spaced, spaced_more, line_none, line_of}
 use Rattle.prints.proofs.Writing.{nothing, then, same, most}
-use Rattle.prints.proofs.pens.Pen.put_line.Goals as goal
+use Rattle.prints.proofs.pens.LentPen.put_line.Goals as goal
 
 pub returns-in_default-clause-whole : goal.returns-in_default-clause-whole
 returns-in_default-clause-whole c = same (nothing c.args.self.now (search rules) (search rules)) (line_none c.args.words.now c.in_default.ensures.cases)

@@ -3,7 +3,7 @@ use Rattle.std.proofs.lemmas.List.{take_more, take_all}
 use Rattle.prints.specs.Lines.{lines}
 use Rattle.prints.proofs.Lines.{lines_more}
 use Rattle.prints.proofs.Writing.{nothing, then, same}
-use Rattle.prints.proofs.pens.Pen.put_lines.Goals as goal
+use Rattle.prints.proofs.pens.LentPen.put_lines.Goals as goal
 
 pub loop-words-init : goal.loop-words-init
 unfolding lines
