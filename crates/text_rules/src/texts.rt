@@ -45,7 +45,11 @@ pub fn fill_rules(s: &[u8], m: Manner, p: usize, words: &mut [i32], bytes: &mut 
     let mut broken = None;
     loop {
         let c = Cursor { at }.blanks(s);
-        let (rule, d) = fill_rule(s, m, c, separator, words, bytes, slot)?;
+        // A match in place of `?`: two must-fail edits answer otherwise in the arm of a refusal, and the proof names the arms.
+        let (rule, d) = match fill_rule(s, m, c, separator, words, bytes, slot) {
+            Ok(read) => read,
+            Err(refusal) => return Err(refusal),
+        };
         let (next, e) = parted(s, d)?;
         slot += rule.items + 1;
         warned += rule.warnings;
