@@ -38,7 +38,7 @@ pub returns-then-well_begun : goal.returns-then-well_begun
 returns-then-well_begun c = rw (
   judged _ c.args.s.now c.args.self.at c.args.to.at (before_holiday c.number.ensures c.if-number-kind.false) c.requires.at_lt_at c.requires.at_in_bounds,
   sym c.well_begun.ensures ∙ c.if-well_begun.true,
-) (ap not (c.all_small.ensures ∙ ap all_small (cut_slice c.args.s.now (c.args.self.at + 1) c.args.to.at (omega arith))))
+) (ap not (c.all_small.ensures ∙ ap all_small (cut_slice c.args.s.now _ c.args.to.at (omega arith) ∙ ap (λ k. slice k c.args.to.at c.args.s.now) (omega arith))))
 
 pub returns-else-well_begun : goal.returns-else-well_begun
 returns-else-well_begun c = rw (
