@@ -35,15 +35,12 @@ impl Cursor {
     pub fn skip(self, s: &[u8], lo: u8, hi: u8) -> Cursor
         ensures { chain.skip (within lo hi) s.now self.at ≡ got tt result.at }
     {
-        for at in self.at..s.len() {
-            if !(lo..=hi).contains(&s[at]) {
-                return Cursor { at };
-            }
+        let mut at = self.at;
+        // By hand: a `for` over the places takes three instructions more for each byte where it is inlined.
+        while at < s.len() && (lo..=hi).contains(&s[at]) {
+            at += 1;
         }
-        // Where the text has ended before the cursor, it stays.
-        Cursor {
-            at: self.at.max(s.len()),
-        }
+        Cursor { at }
     }
 
     // The place after bytes 32, or none.
