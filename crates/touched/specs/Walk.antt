@@ -1,5 +1,5 @@
 -- The items that are left of a rule.
-use Rattle.std.specs.Prelude.{List}
+use Rattle.std.specs.Prelude.{List, [], ◌∷◌, Bool, true, false}
 use Rattle.lent_slots.specs.Lent.{lent}
 use Rattle.records.specs.declared.Item.{Item}
 use Rattle.table_rules.specs.Rules.{items_up}
@@ -7,3 +7,8 @@ use Rattle.touched.specs.declared.Items.{Items}
 
 abbrev pub items_left : Items → List Item
 items_left s = items_up (lent s.table) s.slot
+
+-- whether no item is left
+abbrev pub is_none_left : List Item → Bool
+is_none_left [] = true
+is_none_left (a ∷ l) = false

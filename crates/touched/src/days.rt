@@ -59,10 +59,13 @@ fn days_fit(b: &[u8]) -> bool
     b.len() % DAY_BYTES == 0 && (0..b.len() / DAY_BYTES).all(|i| day_at(b, i).possible())
 }
 
-// Whether a day is touched by a rule's items.
+// Whether a day is touched by a rule's items: each day, where there are none.
 fn rule_touch(items: Items, day: OnDay) -> Touch
     ensures { result ≡ kinds.rule_touch day (items_left items.entry) }
 {
+    if items.is_over() {
+        return Touch::Yes;
+    }
     items
         .fold(Found::begun(), |found, a| found.with(day, a))
         .ended()

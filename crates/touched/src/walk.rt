@@ -9,13 +9,21 @@ use table_rules::is_head;
 
 impl<'a> Items<'a> {
     ghost use Rattle.lent_slots.specs.Lent.{lent};
-    ghost use Rattle.touched.specs.Walk.{items_left};
+    ghost use Rattle.touched.specs.Walk.{items_left, is_none_left};
 
     // The items from a slot of a table on.
     pub fn new(table: Table<'a>, slot: usize) -> Items<'a>
         ensures { items_left result ≡ rules.items_up (lent table.entry) slot }
     {
         Items { table, slot }
+    }
+
+    // Whether none is left: the table ends here, or the next head stands here.
+    #[tactic(auto, using(table_rules::proofs::Heads::items_head, table_rules::proofs::Heads::items_item, table_rules::proofs::Heads::items_end))]
+    pub(crate) fn is_over(self) -> bool
+        ensures { result ≡ is_none_left (items_left self.entry) }
+    {
+        self.slot >= self.table.slots() || is_head(self.table.record(self.slot))
     }
 }
 
