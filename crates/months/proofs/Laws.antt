@@ -5,20 +5,19 @@ use Rattle.std.proofs.Math.Pow.{pow_mono}
 use Rattle.std.proofs.Math.Nat.{pow-suc}
 use Rattle.std.specs.Int.{from_bool}
 use mathlib.Core.Bool.{Bool, true, false, ◌||◌}
-use mathlib.Core.List.{List, [], ◌∷◌, map, map-id}
-use mathlib.Core.Path.{◌≡◌, refl, sym, ap, ◌∙◌}
+use mathlib.Core.List.{List, [], ◌∷◌}
+use mathlib.Core.Path.{◌≡◌, refl, ap, ◌∙◌}
 use lib.Dec.{eqb}
 use Rattle.records.specs.declared.Item.{Item}
 use Rattle.records.specs.declared.MonthSpan.{MonthSpan}
 use Rattle.records.specs.declared.DateSpan.{DateSpan}
 use Rattle.records.specs.declared.Item.TheVariants.{Years, Months, Dates, Weeks, Weekdays, Holidays, Times}
 use Rattle.touched.specs.Kinds.{kind_of, of_kind}
-use Rattle.months.specs.Months.{item_can, any_can, list_can, rule_can, bit_of, mask}
-use Rattle.std.proofs.Common.{Option, Some, None, unwrap_or, subst}
-use Rattle.std.specs.List.{fold, reduce, filter, FoldsTo}
-use Rattle.std.specs.Iterator.{Drains, FoldTurn, ReducesItems}
-use Rattle.std.proofs.lemmas.Iterator.{YieldsList, items_from_drains}
-use denote.Param.Members.{Mut, Called}
+use Rattle.months.specs.Months.{item_can, any_can, list_can, rule_can, rule_mask, bit_of, mask}
+use Rattle.months.specs.Masks.{tabled, with_item, asked, mask_of}
+use Rattle.std.proofs.Common.{Option, Some, None}
+use Rattle.std.specs.Prelude.{if◌then◌else◌}
+use Rattle.std.specs.List.{fold}
 
 -- items other than those of months and dates are not asked
 pub not_asked : (a : Item) (m : ℕ) → ((r : MonthSpan) → a ≡ Months r → ⊥) → ((r : DateSpan) → a ≡ Dates r → ⊥) → false ≡ item_can a m
@@ -33,31 +32,57 @@ not_asked (Times r) m p q = refl
 
 -- ---- the months of a rule
 
--- the items that are asked
-month_days : (l : List Item) → filter (λ a. eqb (kind_of a) 2) l ≡ of_kind 2 l
-unfolding of_kind
-month_days [] = refl
-month_days (a ∷ l) = rw (month_days l)
-
 or_assoc : (a b c : Bool) → ((a || b) || c) ≡ (a || (b || c))
 or_assoc true b c = refl
 or_assoc false b c = refl
 
--- one of them can, or what came before
-any_folds : (m : ℕ) (c : Bool) (l : List Item) → fold (λ x y. x || y) c (map (λ a. item_can a m) l) ≡ (c || any_can l m)
-unfolding any_can
-any_folds m true [] = refl
-any_folds m false [] = refl
-any_folds m c (a ∷ l) = any_folds m (c || item_can a m) l ∙ or_assoc c (item_can a m) (any_can l m)
+or_false : (b : Bool) → b ≡ (b || false)
+or_false true = refl
+or_false false = refl
 
-listed : (m : ℕ) (l : List Item) → unwrap_or (reduce (λ x y. x || y) (map (λ a. item_can a m) l)) true ≡ list_can l m
-unfolding any_can
-listed m [] = refl
-listed m (a ∷ l) = any_folds m (item_can a m) l
+-- tables of the same months
+tabled_same : (f g : ℕ → Bool) → ((m : ℕ) → f m ≡ g m) → tabled f ≡ tabled g
+tabled_same f g e = rw (e 1, e 2, e 3, e 4, e 5, e 6, e 7, e 8, e 9, e 10, e 11, e 12) refl
 
-pub rule_asked : (m : ℕ) (l : List Item) → unwrap_or (reduce (λ x y. x || y) (map (λ a. item_can a m) (filter (λ a. eqb (kind_of a) 2) l))) true ≡ rule_can l m
-unfolding rule_can
-rule_asked m l = rw (month_days l) (listed m (of_kind 2 l))
+-- after month-day items: they can, or a later one
+some_asked : (f : ℕ → Bool) (l : List Item) → fold asked (Some (tabled f)) l ≡ Some (tabled (λ m. f m || any_can (of_kind 2 l) m))
+unfolding any_can of_kind with_item
+some_asked f [] = ap Some (tabled_same f (λ m. f m || false) (λ m. or_false (f m)))
+some_asked f (a ∷ l) = go (eqb (kind_of a) 2) (some_asked f l) (some_asked (λ m. f m || item_can a m) l)
+  where
+    go : (t : Bool) → fold asked (Some (tabled f)) l ≡ Some (tabled (λ m. f m || any_can (of_kind 2 l) m)) →
+        fold asked (Some (tabled (λ m. f m || item_can a m))) l ≡ Some (tabled (λ m. (f m || item_can a m) || any_can (of_kind 2 l) m)) →
+        fold asked (if t then Some (tabled (λ m. f m || item_can a m)) else Some (tabled f)) l ≡ Some (tabled (λ m. f m || any_can (if t then a ∷ of_kind 2 l else of_kind 2 l) m))
+    go true p q = q ∙ ap Some (tabled_same (λ m. (f m || item_can a m) || any_can (of_kind 2 l) m) (λ m. f m || (item_can a m || any_can (of_kind 2 l) m)) (λ m. or_assoc (f m) (item_can a m) (any_can (of_kind 2 l) m)))
+    go false p q = p
+
+-- the months of month-day items: none is asked, or they can
+abbrev listed : List Item → Option (List Bool)
+listed [] = None
+listed (a ∷ l) = Some (tabled (any_can (a ∷ l)))
+
+all_asked : (l : List Item) → fold asked None l ≡ listed (of_kind 2 l)
+unfolding any_can of_kind with_item
+all_asked [] = refl
+all_asked (a ∷ l) = go (eqb (kind_of a) 2) (all_asked l)
+  where
+    go : (t : Bool) → fold asked None l ≡ listed (of_kind 2 l) →
+        fold asked (if t then Some (tabled (λ m. item_can a m)) else None) l ≡ listed (if t then a ∷ of_kind 2 l else of_kind 2 l)
+    go true p = some_asked (λ m. item_can a m) l
+    go false p = p
+
+-- as a number
+abbrev pub number : Option (List Bool) → ℕ
+number None = 4095
+number (Some can) = mask_of can
+
+pub rule_asked : (l : List Item) → number (fold asked None l) ≡ rule_mask l
+unfolding rule_can mask
+rule_asked l = ap number (all_asked l) ∙ go (of_kind 2 l)
+  where
+    go : (k : List Item) → number (listed k) ≡ mask (list_can k)
+    go [] = refl
+    go (a ∷ k) = refl
 
 -- ---- the months as a number, month by month
 
@@ -86,19 +111,3 @@ module _ (f : ℕ → Bool) where
 pub all_masked : (f : ℕ → Bool) (n : ℕ) → n ≡ 12 → masked f n ≡ mask f
 unfolding mask
 all_masked f n e = rw e (omega arith)
-
--- ---- `reduce` with a closure that computes h
-
-listed_by : {S A : Type 0} {steps : S → Option A → S → Type 0} {s : S} {all : List A} (xs : List A) → Drains steps s xs → YieldsList steps (λ x. x) s all → xs ≡ all
-listed_by {steps = steps} {s} xs d e = sym (map-id xs) ∙ items_from_drains {steps = steps} {v = λ x. x} {s = s} xs (d.1.0, d.1.1, λ _. (d.0, d.1.2)) e
-
-module _ {A F : Type 0} (g : Mut F (A × (A × Unit {0})) A) (h : A → A → A) (f : F) (k : (a x b : A) (q : F) → Called g f (a, (x, tt)) b q → (q ≡ f) × (b ≡ h a x)) where
-  turns : (xs : List A) (p q : F × A) → p.0 ≡ f → FoldsTo {P = F × A} (FoldTurn g) p xs q → q.1 ≡ fold h p.1 xs
-  turns [] p q a c = ap (λ w. w.1) (sym c)
-  turns (x ∷ xs) p q a c =
-      let m = k p.1 x c.0.1 c.0.0 (subst (λ w. Called g w (p.1, (x, tt)) c.0.1 c.0.0) a c.1) in
-      turns xs c.0 q m.0 c.2 ∙ ap (λ b. fold h b xs) m.1
-
-  pub reduced : {S : Type 0} {steps : S → Option A → S → Type 0} {s : S} {all : List A} (r : Option A) → ReducesItems steps g s f r → YieldsList steps (λ x. x) s all → r ≡ reduce h all
-  reduced {steps = steps} {s} {all} None d e = ap (reduce h) (listed_by {steps = steps} {s = s} {all = all} [] d e)
-  reduced {steps = steps} {s} {all} (Some y) d e = ap Some (turns d.1 (f, d.0) (d.2, y) refl d.4) ∙ ap (reduce h) (listed_by {steps = steps} {s = s} {all = all} (d.0 ∷ d.1) d.3 e)

@@ -1,3 +1,4 @@
 pub mod Months
 pub mod Entries
 pub mod Walk
+pub mod Masks
